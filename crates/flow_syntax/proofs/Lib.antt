@@ -1,0 +1,4 @@
+pub mod Fits
+pub mod Matches
+pub mod Names
+pub mod Rows

@@ -1,0 +1,4 @@
+pub mod Accepted
+pub mod Control
+pub mod Graph
+pub mod Matching

@@ -1,0 +1,92 @@
+ghost use Rattle.std.specs.Prelude.{◌≡◌, is_some};
+ghost use Rattle.std.specs.List.{list_any};
+ghost use Rattle.flow_syntax.specs.Matching.{matches, name_in, name_of, sole_text, term_layer, fit_all};
+
+use crate::pattern::{Pattern, PatternKind};
+use flow_term::{Kind, Term};
+
+/// Whether an annotation is `Decl` or `Ref` of one text.
+fn is_name(annotation: &Term) -> bool
+    ensures { result ≡ is_some (name_in (term_layer annotation.now)) }
+{
+    match &annotation.kind {
+        Kind::Apply(name, args) => (name.as_str() == "Decl" || name.as_str() == "Ref")
+            && is_sole_text(args.as_slice()),
+        _ => false,
+    }
+}
+
+fn is_sole_text(terms: &[Term]) -> bool
+    ensures { result ≡ is_some (sole_text terms.now) }
+{
+    match terms {
+        [only] => matches!(&only.kind, Kind::Str(_)),
+        _ => false,
+    }
+}
+
+/// Whether a term has a resolved name.
+#[tactic(auto, using(crate::proofs::Names::name_of_any))]
+fn has_name(term: &Term) -> bool
+    ensures { result ≡ is_some (name_of term.now) }
+{
+    has_any_name(term.annos.as_slice())
+}
+
+fn has_any_name(annotations: &[Term]) -> bool
+    ensures { result ≡ list_any (λ a. is_some (name_in (term_layer a))) annotations.now }
+{
+    annotations.iter().any(|annotation| is_name(annotation))
+}
+
+/// Whether the pattern matches the term.
+#[cycle(matching)]
+#[tactic(auto, using(crate::proofs::Matches::matches_out))]
+pub fn is_match(pattern: &Pattern, term: &Term) -> bool
+    ensures { result ≡ matches pattern.now term.now }
+{
+    match &pattern.kind {
+        PatternKind::Wild | PatternKind::Var(_) => true,
+        PatternKind::NameVar(_) => has_name(term),
+        PatternKind::StrVar(_) => matches!(&term.kind, Kind::Str(_)),
+        PatternKind::IntVar(_) => matches!(&term.kind, Kind::Int(_)),
+        PatternKind::IntLit(number) => match &term.kind {
+            Kind::Int(other) => *number == *other,
+            _ => false,
+        },
+        PatternKind::StrLit(text) => match &term.kind {
+            Kind::Str(other) => *text == *other,
+            _ => false,
+        },
+        PatternKind::Apply(name, parts) => match &term.kind {
+            Kind::Apply(other, args) => *name == *other
+                && are_matches(parts.as_slice(), args.as_slice()),
+            _ => false,
+        },
+        PatternKind::Tuple(parts) => match &term.kind {
+            Kind::Tuple(items) => are_matches(parts.as_slice(), items.as_slice()),
+            _ => false,
+        },
+        PatternKind::Items(parts) => match &term.kind {
+            Kind::Items(items) => are_matches(parts.as_slice(), items.as_slice()),
+            _ => false,
+        },
+        PatternKind::Held(_, inner) => is_match(inner.get(), term),
+    }
+}
+
+#[cycle(matching)]
+#[tactic(auto, using(crate::proofs::Fits::fit_next, crate::proofs::Fits::fit_end, crate::proofs::Fits::fit_short))]
+fn are_matches(patterns: &[Pattern], terms: &[Term]) -> bool
+    ensures { result ≡ fit_all patterns.now terms.now }
+{
+    if patterns.len() != terms.len() {
+        return false;
+    }
+    for (i, pattern) in patterns.iter().enumerate() {
+        if !is_match(pattern, &terms[i]) {
+            return false;
+        }
+    }
+    true
+}

@@ -1,0 +1,23 @@
+ghost use Rattle.flow_syntax.specs.Accepted.{IsAccepted};
+
+use crate::rule::FlowRule;
+use flow_term::{List, Text};
+
+#[derive(Debug, Drop)]
+pub struct Named {
+    pub text: Text,
+    pub place: u64,
+}
+
+#[derive(Drop)]
+pub struct Spec {
+    pub name: Named,
+    pub control: List<FlowRule>,
+}
+
+/// A specification without a fault.
+#[derive(Drop)]
+pub struct TypedSpec {
+    pub spec: Spec,
+    pub ghost accepted: { ∥ IsAccepted spec ∥₁ },
+}

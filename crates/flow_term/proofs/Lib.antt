@@ -1,0 +1,5 @@
+pub mod Lists
+pub mod Positions
+pub mod Sizes
+pub mod OrdersLemmas
+pub mod Same
