@@ -1,9 +1,13 @@
 -- Matching, by one layer of the pattern.
-use Rattle.std.proofs.Common.{◌≡◌, ℕ, ap, ◌∙◌}
+use Rattle.std.proofs.Common.{◌≡◌, ℕ, suc, ◌≤◌, Bool, true, false, ◌&&◌, List, [], ◌∷◌, Some, length, map, find, cond, refl, sym, ap, subst, ◌∙◌, arith}
+use Rattle.std.proofs.lemmas.List.{length-map}
+use Rattle.std.proofs.lemmas.Option.{same_Some}
+use Rattle.flow_term.specs.Trees.{children}
+use Rattle.flow_syntax.specs.Control.{arguments_in}
 use Rattle.flow_term.specs.declared.term.Term.{Term}
 use Rattle.flow_syntax.specs.declared.pattern.Pattern.{Pattern, Pattern-F, roll-Pattern, out-Pattern, fold-roll-Pattern, fold_out-Pattern}
 use Rattle.flow_syntax.specs.declared.pattern.PatternKind.{PatternKind, PatternKind-F, roll-PatternKind, fold-PatternKind, fold-roll-PatternKind, fold_out-PatternKind, map-PatternKind}
-use Rattle.flow_syntax.specs.Matching.{matches, Matcher, match_layer, PatternLayer, pattern_layer}
+use Rattle.flow_syntax.specs.Matching.{matches, Matcher, match_layer, PatternLayer, pattern_layer, fit, is_apply, term_layer}
 
 abbrev outer_step : Pattern-F Matcher Matcher → Matcher
 outer_step p = p.kind
@@ -24,3 +28,32 @@ matches_out p t = ap (λ (m : Matcher). m t)
 pub matches_roll : (n : ℕ) (x : PatternLayer) (t : Term) → matches (roll-Pattern (record { place = n; kind = roll-PatternKind x })) t ≡ match_layer (tests_of x) t
 matches_roll n x t = ap (λ (m : Matcher). m t)
     (fold-roll-Pattern Matcher Matcher match_layer outer_step (record { place = n; kind = roll-PatternKind x }) ∙ fold-roll-PatternKind Matcher Matcher match_layer outer_step x)
+
+both_true : (a b : Bool) → (a && b) ≡ true → b ≡ true
+both_true true b h = h
+both_true false b h = cc
+
+fit_length : (ms : List Matcher) (ts : List Term) → fit ms ts ≡ true → length ms ≡ length ts
+fit_length [] [] h = refl
+fit_length [] (t ∷ ts) h = cc
+fit_length (m ∷ ms) [] h = cc
+fit_length (m ∷ ms) (t ∷ ts) h = ap suc (fit_length ms ts (both_true (m t) (fit ms ts) h))
+
+few_in : (x : PatternLayer) (t : Term) → match_layer (tests_of x) t ≡ true → length (arguments_in x) ≤ length (children t)
+few_in (PatternKind-F.Apply name parts) t h =
+    let same : length (map matches parts) ≡ length (children t) = fit_length (map matches parts) (children t) (both_true (is_apply name (term_layer t)) (fit (map matches parts) (children t)) h) in
+    omega (arith, same, length-map parts matches)
+few_in _ t h = omega arith
+
+-- a pattern that matches has at most as many arguments as the term has children
+pub few_arguments : (p : Pattern) (t : Term) → matches p t ≡ true → length (arguments_in (pattern_layer p)) ≤ length (children t)
+few_arguments p t h = few_in (pattern_layer p) t (sym (matches_out p t) ∙ h)
+
+-- what `find` finds passes its test
+pub found_passes : {X : Type 0} (test : X → Bool) (xs : List X) (x : X) → find test xs ≡ Some x → test x ≡ true
+found_passes {X} test [] x h = cc
+found_passes {X} test (y ∷ xs) x h = go (test y) refl h (found_passes test xs x)
+  where
+    go : (b : Bool) → test y ≡ b → cond b (Some y) (find test xs) ≡ Some x → (find test xs ≡ Some x → test x ≡ true) → test x ≡ true
+    go true e k rest = subst (λ (z : X). test z ≡ true) (same_Some y x k) e
+    go false e k rest = rest k

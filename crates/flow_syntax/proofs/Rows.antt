@@ -1,4 +1,4 @@
--- Worked rows.
+-- The definitions of the graph at a worked tree: the program of one empty loop, whose loop adds no edge.
 use Rattle.std.proofs.Common.{◌≡◌, ℕ, true, false, List, [], ◌∷◌, refl, ◌<◌, arith}
 use Rattle.std.specs.Prelude.{codes}
 use Rattle.flow_term.specs.declared.term.Term.{Term, roll-Term, out-roll-Term}
@@ -11,8 +11,8 @@ use Rattle.flow_syntax.specs.declared.rule.Item.{Item}
 use Rattle.flow_syntax.specs.declared.rule.ItemKind.{ItemKind}
 use Rattle.flow_syntax.specs.declared.rule.ItemKind.TheVariants as item
 use Rattle.flow_syntax.specs.declared.spec.Spec.{Spec}
-use Rattle.flow_syntax.specs.Control.{CountsAs, entered_at}
-use Rattle.flow_syntax.specs.Graph.{IsListOf, IsEdge, IsLink, LinksAt, chained, empty, first, last}
+use Rattle.flow_syntax.specs.Control.{CountsBy, entered_at, rule_for}
+use Rattle.flow_syntax.specs.Graph.{IsListOf, IsEdge, IsLink, LinksAt, in_chain, through_empty, into_first, from_last}
 use Rattle.flow_term.specs.declared.graph.Point.{Point}
 use Rattle.flow_term.specs.declared.graph.Point.TheVariants as point
 use Rattle.flow_term.specs.declared.graph.NodeKind.TheVariants as kind
@@ -64,13 +64,13 @@ spec = record { name = record { text = codes "m"; place = 0 }; control = prog_ru
 the_children : children tree ≡ items (empty_loop ∷ []) ∷ []
 the_children = simp (out-roll-Term, out-roll-Kind)
 
--- what computes a row
+-- what computes at a written-out tree
 ruleset rows = (out-roll-Term, out-roll-Kind, matches_roll, out-roll-Pattern, out-roll-PatternKind)
 
-prog_here : CountsAs spec (entered_at spec tree []) tree prog_rule
+prog_here : CountsBy (rule_for spec tree) (entered_at spec tree []) prog_rule
 prog_here = (simp rows, refl)
 
-loop_here : CountsAs spec (entered_at spec tree (0 ∷ 0 ∷ [])) empty_loop loop_rule
+loop_here : CountsBy (rule_for spec empty_loop) (entered_at spec tree (0 ∷ 0 ∷ [])) loop_rule
 loop_here = (simp rows, simp rows)
 
 list_here : IsListOf (items (empty_loop ∷ [])) 1
@@ -82,37 +82,37 @@ inner_list_here = (simp rows, simp rows)
 one : 0 < 1
 one = omega arith
 
-at_root : (a b : Point) → LinksAt spec (entered_at spec tree []) tree [] a b → IsLink spec tree a b
+at_root : (a b : Point) → LinksAt (rule_for spec tree) (entered_at spec tree []) tree [] a b → IsLink spec tree a b
 at_root a b h = record { path = []; t = tree; position = refl; made = h }
 
-at_list : (a b : Point) → LinksAt spec (entered_at spec tree (0 ∷ [])) (items (empty_loop ∷ [])) (0 ∷ []) a b → IsLink spec tree a b
+at_list : (a b : Point) → LinksAt (rule_for spec (items (empty_loop ∷ []))) (entered_at spec tree (0 ∷ [])) (items (empty_loop ∷ [])) (0 ∷ []) a b → IsLink spec tree a b
 at_list a b h = record { path = 0 ∷ []; t = items (empty_loop ∷ []); position = simp rows; made = h }
 
-at_loop : (a b : Point) → LinksAt spec (entered_at spec tree (0 ∷ 0 ∷ [])) empty_loop (0 ∷ 0 ∷ []) a b → IsLink spec tree a b
+at_loop : (a b : Point) → LinksAt (rule_for spec empty_loop) (entered_at spec tree (0 ∷ 0 ∷ [])) empty_loop (0 ∷ 0 ∷ []) a b → IsLink spec tree a b
 at_loop a b h = record { path = 0 ∷ 0 ∷ []; t = empty_loop; position = simp rows; made = h }
 
-at_body : (a b : Point) → LinksAt spec (entered_at spec tree (0 ∷ 0 ∷ 0 ∷ [])) (items []) (0 ∷ 0 ∷ 0 ∷ []) a b → IsLink spec tree a b
+at_body : (a b : Point) → LinksAt (rule_for spec (items [])) (entered_at spec tree (0 ∷ 0 ∷ 0 ∷ [])) (items []) (0 ∷ 0 ∷ 0 ∷ []) a b → IsLink spec tree a b
 at_body a b h = record { path = 0 ∷ 0 ∷ 0 ∷ []; t = items []; position = simp rows; made = h }
 
 -- the edge of the empty loop: in through the list and the loop to its empty list, and out
-row_3 : IsEdge spec tree (record { path = []; kind = kind.Start }) (record { path = []; kind = kind.End })
-row_3 = record {
-  passed = point.In (0 ∷ []) ∷ point.In (0 ∷ 0 ∷ []) ∷ point.In (0 ∷ 0 ∷ 0 ∷ []) ∷ point.Out (0 ∷ 0 ∷ 0 ∷ []) ∷ point.Out (0 ∷ 0 ∷ []) ∷ point.Out (0 ∷ []) ∷ [];
-  inner = (tt, (tt, (tt, (tt, (tt, (tt, tt))))));
+empty_loop_edge : IsEdge spec tree (record { path = []; kind = kind.Start }) (record { path = []; kind = kind.End })
+empty_loop_edge = record {
+  inner = point.In (0 ∷ []) ∷ point.In (0 ∷ 0 ∷ []) ∷ point.In (0 ∷ 0 ∷ 0 ∷ []) ∷ point.Out (0 ∷ 0 ∷ 0 ∷ []) ∷ point.Out (0 ∷ 0 ∷ []) ∷ point.Out (0 ∷ []) ∷ [];
+  passes = (tt, (tt, (tt, (tt, (tt, (tt, tt))))));
   linked = (
-    at_root _ _ (chained prog_rule _ _ _ prog_here (0, one, refl) (0, refl, refl) refl (simp rows)),
+    at_root _ _ (in_chain prog_rule _ _ _ prog_here (0, one, refl) (0, refl, refl) refl (simp rows)),
     (
-      at_list _ _ (first 0 (simp rows) list_here refl refl),
+      at_list _ _ (into_first 0 (simp rows) list_here refl refl),
       (
-        at_loop _ _ (chained loop_rule _ _ _ loop_here (0, one, refl) (0, refl, refl) refl (simp rows)),
+        at_loop _ _ (in_chain loop_rule _ _ _ loop_here (0, one, refl) (0, refl, refl) refl (simp rows)),
         (
-          at_body _ _ (empty (simp rows) inner_list_here refl refl),
+          at_body _ _ (through_empty (simp rows) inner_list_here refl refl),
           (
-            at_loop _ _ (chained loop_rule _ _ _ loop_here (0, one, refl) (2, refl, refl) (simp rows) refl),
+            at_loop _ _ (in_chain loop_rule _ _ _ loop_here (0, one, refl) (2, refl, refl) (simp rows) refl),
             (
-              at_list _ _ (last 0 (simp rows) list_here refl refl),
+              at_list _ _ (from_last 0 (simp rows) list_here refl refl),
               (
-                at_root _ _ (chained prog_rule _ _ _ prog_here (0, one, refl) (1, refl, refl) (simp rows) refl),
+                at_root _ _ (in_chain prog_rule _ _ _ prog_here (0, one, refl) (1, refl, refl) (simp rows) refl),
                 tt,
               ),
             ),

@@ -1,6 +1,6 @@
 -- Which positions of a tree count, and which are entered.
 use Rattle.std.specs.Prelude.{◌<◌, ◌^◌, length, ◌≡◌, ℕ, Bool, false, ◌&&◌, ◌||◌, IsTrue, List, [], ◌∷◌, Option, Some, IsSome, find, slice_get, bytes_eq, ◌==◌}
-use Rattle.std.specs.List.{AllByRecursion, list_any, position_from}
+use Rattle.std.specs.List.{list_any, position_from}
 use Rattle.std.specs.Option.{option_map_or}
 use Rattle.flow_term.specs.declared.term.Term.{Term}
 use Rattle.flow_term.specs.Trees.{At, children}
@@ -40,34 +40,29 @@ enters rule n = list_any (λ chain. list_any (λ it. enters_argument rule n it.k
 abbrev pub rule_for : Spec → Term → Option FlowRule
 rule_for spec t = find (λ rule. matches rule.head t) spec.control
 
--- whether a term counts that is entered or isn't
-abbrev pub counts_as : Spec → Bool → Term → Bool
-counts_as spec entered t = option_map_or (λ rule. rule.root || entered) (rule_for spec t) false
+-- A position counts by a rule: the rule matches its term, and is a root rule or the position is entered.
+abbrev pub CountsBy : Option FlowRule → Bool → FlowRule → Type 0
+CountsBy matching entered rule = (matching ≡ Some rule) × IsTrue (rule.root || entered)
 
--- whether its child of this number is entered
-abbrev pub passes_to : Spec → Bool → Term → ℕ → Bool
-passes_to spec entered t n = (entered && is_list (term_layer t)) || (counts_as spec entered t && option_map_or (λ rule. enters rule n) (rule_for spec t) false)
+-- whether the child of this number is entered: its parent is an entered list, or counts by a rule that enters this argument
+abbrev pub enters_child : Option FlowRule → Bool → Term → ℕ → Bool
+enters_child matching entered t n = (entered && is_list (term_layer t)) || option_map_or (λ rule. (rule.root || entered) && enters rule n) matching false
 
--- whether the position at the path below a term is entered
+-- whether the position at the path below a term is entered, where the term itself is entered or not
 abbrev pub entered_below : Spec → Bool → Term → List ℕ → Bool
 entered_below spec entered t [] = entered
-entered_below spec entered t (n ∷ path) = option_map_or (λ child. entered_below spec (passes_to spec entered t n) child path) (slice_get (children t) n) false
+entered_below spec entered t (n ∷ path) =
+    option_map_or (λ child. entered_below spec (enters_child (rule_for spec t) entered t n) child path) (slice_get (children t) n) false
 
--- the root of a tree isn't entered
+-- whether a position of a tree is entered: the root isn't
 abbrev pub entered_at : Spec → Term → List ℕ → Bool
 entered_at spec tree path = entered_below spec false tree path
 
--- A term that is entered or isn't counts, and this is its matching rule.
-abbrev pub CountsAs : Spec → Bool → Term → FlowRule → Type 0
-CountsAs spec entered t rule = (rule_for spec t ≡ Some rule) × IsTrue (rule.root || entered)
-
--- The position is entered.
-abbrev pub Entered : Spec → Term → List ℕ → Type 0
-Entered spec tree path = IsTrue (entered_at spec tree path)
-
--- The position counts.
-abbrev pub Counts : Spec → Term → List ℕ → Type 0
-Counts spec tree path = (t : Term) × (rule : FlowRule) × (At tree path ≡ Some t) × CountsAs spec (entered_at spec tree path) t rule
+-- A position of a tree counts by a rule.
+pub record Counts (spec : Spec) (tree : Term) (path : List ℕ) (rule : FlowRule) : Type 0 where
+  pub t : Term
+  pub position : At tree path ≡ Some t
+  pub counts : CountsBy (rule_for spec t) (entered_at spec tree path) rule
 
 -- a head is an application
 abbrev pub IsHeadIn : PatternLayer → Type 0
@@ -83,9 +78,6 @@ IsNamed rule (item.Whole x) = IsSome (argument rule x)
 IsNamed rule (item.Single x) = IsSome (argument rule x)
 IsNamed rule _ = Unit {0}
 
--- the head of each rule has fewer than 2^32 arguments
+-- the head of a rule has fewer than 2^32 arguments, so that their numbers are steps of a path
 abbrev pub HasSmallHead : FlowRule → Type 0
 HasSmallHead rule = length (arguments_in (pattern_layer rule.head)) < 2 ^ 32
-
-abbrev pub HasSmallHeads : Spec → Type 0
-HasSmallHeads spec = AllByRecursion HasSmallHead spec.control

@@ -15,7 +15,7 @@ use Rattle.flow_syntax.specs.declared.rule.ItemKind.{ItemKind}
 use Rattle.flow_syntax.specs.declared.rule.ItemKind.TheVariants as item
 use Rattle.flow_syntax.specs.declared.spec.Spec.{Spec}
 use Rattle.flow_syntax.specs.Matching.{term_layer, is_list}
-use Rattle.flow_syntax.specs.Control.{argument, rule_for, entered_at, CountsAs}
+use Rattle.flow_syntax.specs.Control.{argument, rule_for, entered_at, Counts, CountsBy}
 
 -- the position of a child
 abbrev pub below : List ℕ → ℕ → List ℕ
@@ -53,28 +53,29 @@ AreConsecutive xs a b = (k : ℕ) × (slice_get xs k ≡ Some a) × (slice_get x
 abbrev pub IsListOf : Term → ℕ → Type 0
 IsListOf t n = IsTrue (is_list (term_layer t)) × (length (children t) ≡ n)
 
--- The links that a position makes, by its term and by whether it's entered:
-pub data LinksAt (spec : Spec) (entered : Bool) (t : Term) (path : List ℕ) (a b : Point) : Type 0 where
+-- The links that a position makes, by its term, the rule that matches it, and whether the position is entered:
+pub data LinksAt (matching : Option FlowRule) (entered : Bool) (t : Term) (path : List ℕ) (a b : Point) : Type 0 where
   -- between consecutive items of a chain of the rule, if the position counts
-  chained : (rule : FlowRule) (chain : Chain) (left right : Item) → CountsAs spec entered t rule → Contains rule.chains chain → AreConsecutive chain.items left right
-      → leaving rule path left.kind ≡ Some a → arriving rule path right.kind ≡ Some b → LinksAt spec entered t path a b
+  in_chain : (rule : FlowRule) (chain : Chain) (left right : Item) → CountsBy matching entered rule → Contains rule.chains chain → AreConsecutive chain.items left right
+      → leaving rule path left.kind ≡ Some a → arriving rule path right.kind ≡ Some b → LinksAt matching entered t path a b
   -- through an entered empty list
-  empty : IsTrue entered → IsListOf t 0 → a ≡ point.In path → b ≡ point.Out path → LinksAt spec entered t path a b
+  through_empty : IsTrue entered → IsListOf t 0 → a ≡ point.In path → b ≡ point.Out path → LinksAt matching entered t path a b
   -- into the first item of an entered list
-  first : (n : ℕ) → IsTrue entered → IsListOf t (n + 1) → a ≡ point.In path → b ≡ point.In (below path 0) → LinksAt spec entered t path a b
-  -- out of each item and into the next
-  next : (n k : ℕ) → IsTrue entered → IsListOf t n → k + 1 < n → a ≡ point.Out (below path k) → b ≡ point.In (below path (k + 1)) → LinksAt spec entered t path a b
-  -- out of the last item
-  last : (n : ℕ) → IsTrue entered → IsListOf t (n + 1) → a ≡ point.Out (below path n) → b ≡ point.Out path → LinksAt spec entered t path a b
+  into_first : (n : ℕ) → IsTrue entered → IsListOf t (n + 1) → a ≡ point.In path → b ≡ point.In (below path 0) → LinksAt matching entered t path a b
+  -- out of each item of an entered list and into the next
+  to_next : (n k : ℕ) → IsTrue entered → IsListOf t n → k + 1 < n → a ≡ point.Out (below path k) → b ≡ point.In (below path (k + 1)) → LinksAt matching entered t path a b
+  -- out of the last item of an entered list
+  from_last : (n : ℕ) → IsTrue entered → IsListOf t (n + 1) → a ≡ point.Out (below path n) → b ≡ point.Out path → LinksAt matching entered t path a b
   -- through every other entered position, unless it counts by a plain rule
-  through : IsTrue entered → is_list (term_layer t) ≡ false → ((rule : FlowRule) → rule_for spec t ≡ Some rule → IsTrue rule.root) → a ≡ point.In path → b ≡ point.Out path → LinksAt spec entered t path a b
+  through_other : IsTrue entered → is_list (term_layer t) ≡ false → ((rule : FlowRule) → matching ≡ Some rule → IsTrue rule.root)
+      → a ≡ point.In path → b ≡ point.Out path → LinksAt matching entered t path a b
 
 -- A link of a tree is one that a position of it makes.
 pub record IsLink (spec : Spec) (tree : Term) (a b : Point) : Type 0 where
   pub path : List ℕ
   pub t : Term
   pub position : At tree path ≡ Some t
-  pub made : LinksAt spec (entered_at spec tree path) t path a b
+  pub made : LinksAt (rule_for spec t) (entered_at spec tree path) t path a b
 
 -- the point of a node
 abbrev pub point_of_kind : NodeKind → List ℕ → Point
@@ -85,24 +86,22 @@ point_of_kind kind.End path = point.End path
 abbrev pub point_of : Node → Point
 point_of n = point_of_kind n.kind n.path
 
--- A node of a tree is one that a chain of the rule of a position names, which counts.
+-- A node of a tree is a point that a chain of a counting rule names, other than `In` and `Out`.
 pub record IsNode (spec : Spec) (tree : Term) (n : Node) : Type 0 where
   pub path : List ℕ
-  pub t : Term
-  pub position : At tree path ≡ Some t
   pub rule : FlowRule
-  pub counts : CountsAs spec (entered_at spec tree path) t rule
+  pub counts : Counts spec tree path rule
   pub chain : Chain
   pub has_chain : Contains rule.chains chain
   pub it : Item
   pub has_item : Contains chain.items it
   pub named : leaving rule path it.kind ≡ Some (point_of n)
 
--- `In` and `Out` points are passed
-abbrev pub IsPassed : Point → Type 0
-IsPassed (point.In path) = Unit {0}
-IsPassed (point.Out path) = Unit {0}
-IsPassed _ = ⊥
+-- the points inside an edge are `In` and `Out` points
+abbrev pub IsInner : Point → Type 0
+IsInner (point.In path) = Unit {0}
+IsInner (point.Out path) = Unit {0}
+IsInner _ = ⊥
 
 -- Each two consecutive points are a link.
 abbrev pub IsLinked : Spec → Term → List Point → Type 0
@@ -110,8 +109,8 @@ IsLinked spec tree [] = Unit {0}
 IsLinked spec tree (a ∷ []) = Unit {0}
 IsLinked spec tree (a ∷ b ∷ points) = IsLink spec tree a b × IsLinked spec tree (b ∷ points)
 
--- An edge leads from a node to a node along a list of points, of which the inner ones are passed.
+-- An edge leads from a node to a node along a list of links whose inner points are `In` and `Out` points.
 pub record IsEdge (spec : Spec) (tree : Term) (from to : Node) : Type 0 where
-  pub passed : List Point
-  pub inner : AllByRecursion IsPassed passed
-  pub linked : IsLinked spec tree (point_of from ∷ passed ++ point_of to ∷ [])
+  pub inner : List Point
+  pub passes : AllByRecursion IsInner inner
+  pub linked : IsLinked spec tree (point_of from ∷ inner ++ point_of to ∷ [])

@@ -1,8 +1,9 @@
+//! Patterns against terms.
 ghost use Rattle.std.specs.Prelude.{◌≡◌, is_some};
 ghost use Rattle.std.specs.List.{list_any};
 ghost use Rattle.flow_syntax.specs.Matching.{matches, name_in, name_of, sole_text, term_layer, fit_all};
 
-use crate::pattern::{Pattern, PatternKind};
+use flow_syntax::{Pattern, PatternKind};
 use flow_term::{Kind, Term};
 
 /// Whether an annotation is `Decl` or `Ref` of one text.
@@ -26,7 +27,7 @@ fn is_sole_text(terms: &[Term]) -> bool
 }
 
 /// Whether a term has a resolved name.
-#[tactic(auto, using(crate::proofs::Names::name_of_any))]
+#[tactic(auto, using(flow_syntax::proofs::Names::name_of_any))]
 fn has_name(term: &Term) -> bool
     ensures { result ≡ is_some (name_of term.now) }
 {
@@ -41,7 +42,7 @@ fn has_any_name(annotations: &[Term]) -> bool
 
 /// Whether the pattern matches the term.
 #[cycle(matching)]
-#[tactic(auto, using(crate::proofs::Matches::matches_out))]
+#[tactic(auto, using(flow_syntax::proofs::Matches::matches_out))]
 pub fn is_match(pattern: &Pattern, term: &Term) -> bool
     ensures { result ≡ matches pattern.now term.now }
 {
@@ -76,7 +77,7 @@ pub fn is_match(pattern: &Pattern, term: &Term) -> bool
 }
 
 #[cycle(matching)]
-#[tactic(auto, using(crate::proofs::Fits::fit_next, crate::proofs::Fits::fit_end, crate::proofs::Fits::fit_short))]
+#[tactic(auto, using(flow_syntax::proofs::Fits::fit_next, flow_syntax::proofs::Fits::fit_end, flow_syntax::proofs::Fits::fit_short))]
 fn are_matches(patterns: &[Pattern], terms: &[Term]) -> bool
     ensures { result ≡ fit_all patterns.now terms.now }
 {

@@ -1,0 +1,5 @@
+pub mod BelowLemmas
+pub mod HereLemmas
+pub mod Once
+pub mod Outcomes
+pub mod SizeLemmas

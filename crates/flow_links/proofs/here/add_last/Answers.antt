@@ -1,0 +1,8 @@
+use Rattle.std.proofs.Common.{ap}
+use Rattle.flow_term.specs.declared.graph.Point.TheVariants.{In, Out}
+use Rattle.flow_links.proofs.BelowLemmas.{Adds-ends}
+use Rattle.flow_links.proofs.Outcomes.{on_ok}
+use Rattle.flow_links.proofs.here.add_last.Goals as goal
+
+pub returns : goal.returns
+returns c = on_ok c.insert.result c.insert.ensures (Adds-ends (ap Out c.in_ok-child_path.ensures) (ap Out c.in_ok-same_path.ensures))
