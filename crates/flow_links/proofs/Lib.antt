@@ -1,5 +1,10 @@
 pub mod BelowLemmas
+pub mod EdgeLemmas
+pub mod EndLemmas
 pub mod HereLemmas
+pub mod NumberLemmas
 pub mod Once
 pub mod Outcomes
+pub mod ReachLemmas
+pub mod SetLemmas
 pub mod SizeLemmas

@@ -1,5 +1,5 @@
 -- What follows from what a call ensures of its success.
-use Rattle.std.specs.Prelude.{Result, Ok, Err, OnOk, IfOk}
+use Rattle.std.specs.Prelude.{◌↔◌, Result, Ok, Err, OnOk, IfOk}
 
 pub on_ok : {X E P Q : Type 0} (r : Result X E) → OnOk r P → (P → Q) → OnOk r Q
 on_ok (Ok x) h f = f h
@@ -12,3 +12,6 @@ if_ok (Err e) h f = tt
 pub both_ok : {X E : Type 0} {P Q R : X → Type 0} (r : Result X E) → IfOk r P → IfOk r Q → ((x : X) → P x → Q x → R x) → IfOk r R
 both_ok (Ok x) h k f = f x h k
 both_ok (Err e) h k f = tt
+
+pub iff_then : {P Q R : Type 0} → P ↔ Q → Q ↔ R → P ↔ R
+iff_then f g = (λ p. g.0 (f.0 p), λ r. f.1 (g.1 r))

@@ -6,10 +6,17 @@
 
 mod chain;
 mod collect;
+mod edges;
 mod here;
 mod link_set;
 mod matching;
+mod nodes;
+mod numbers;
+mod ordered_set;
 mod points;
+mod reach;
 mod rules;
 
 pub use collect::links;
+pub use edges::plain_edges;
+pub use nodes::plain_nodes;

@@ -1,6 +1,8 @@
 -- Matching, by one layer of the pattern.
 use Rattle.std.proofs.Common.{◌≡◌, ℕ, suc, ◌≤◌, Bool, true, false, ◌&&◌, List, [], ◌∷◌, Some, length, map, find, cond, refl, sym, ap, subst, ◌∙◌, arith}
+use Rattle.std.specs.Prelude.{Contains}
 use Rattle.std.proofs.lemmas.List.{length-map}
+use Rattle.std.proofs.lemmas.List.Elements.{Contains-get_or, Contains-append_right}
 use Rattle.std.proofs.lemmas.Option.{same_Some}
 use Rattle.flow_term.specs.Trees.{children}
 use Rattle.flow_syntax.specs.Control.{arguments_in}
@@ -57,3 +59,12 @@ found_passes {X} test (y ∷ xs) x h = go (test y) refl h (found_passes test xs 
     go : (b : Bool) → test y ≡ b → cond b (Some y) (find test xs) ≡ Some x → (find test xs ≡ Some x → test x ≡ true) → test x ≡ true
     go true e k rest = subst (λ (z : X). test z ≡ true) (same_Some y x k) e
     go false e k rest = rest k
+
+-- what `find` finds is in the list
+pub found_among : {X : Type 0} (test : X → Bool) (xs : List X) (x : X) → find test xs ≡ Some x → Contains xs x
+found_among test [] x h = cc
+found_among {X} test (y ∷ xs) x h = go (test y) h (found_among test xs x)
+  where
+    go : (b : Bool) → cond b (Some y) (find test xs) ≡ Some x → (find test xs ≡ Some x → Contains xs x) → Contains (y ∷ xs) x
+    go true k rest = subst (λ (z : X). Contains (y ∷ xs) z) (same_Some y x k) (Contains-get_or (y ∷ xs) 0 y (omega arith))
+    go false k rest = Contains-append_right (y ∷ []) xs x (rest k)

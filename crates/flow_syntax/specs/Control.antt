@@ -1,5 +1,5 @@
 -- Which positions of a tree count, and which are entered.
-use Rattle.std.specs.Prelude.{◌<◌, ◌^◌, length, ◌≡◌, ℕ, Bool, false, ◌&&◌, ◌||◌, IsTrue, List, [], ◌∷◌, Option, Some, IsSome, find, slice_get, bytes_eq, ◌==◌}
+use Rattle.std.specs.Prelude.{◌<◌, ◌≤◌, ◌^◌, length, Contains, ◌≡◌, ℕ, Bool, false, ◌&&◌, ◌||◌, IsTrue, List, [], ◌∷◌, Option, Some, None, find, slice_get, bytes_eq, ◌==◌}
 use Rattle.std.specs.List.{list_any, position_from}
 use Rattle.std.specs.Option.{option_map_or}
 use Rattle.flow_term.specs.declared.term.Term.{Term}
@@ -7,6 +7,8 @@ use Rattle.flow_term.specs.Trees.{At, children}
 use Rattle.flow_syntax.specs.declared.pattern.Pattern.{Pattern}
 use Rattle.flow_syntax.specs.declared.pattern.PatternKind.TheOpen.{PatternKind-F}
 use Rattle.flow_syntax.specs.declared.rule.FlowRule.{FlowRule}
+use Rattle.flow_syntax.specs.declared.rule.Chain.{Chain}
+use Rattle.flow_syntax.specs.declared.rule.Item.{Item}
 use Rattle.flow_syntax.specs.declared.rule.ItemKind.{ItemKind}
 use Rattle.flow_syntax.specs.declared.rule.ItemKind.TheVariants as item
 use Rattle.flow_syntax.specs.declared.spec.Spec.{Spec}
@@ -64,19 +66,19 @@ pub record Counts (spec : Spec) (tree : Term) (path : List ℕ) (rule : FlowRule
   pub position : At tree path ≡ Some t
   pub counts : CountsBy (rule_for spec t) (entered_at spec tree path) rule
 
--- a head is an application
-abbrev pub IsHeadIn : PatternLayer → Type 0
-IsHeadIn (PatternKind-F.Apply name parts) = Unit {0}
-IsHeadIn _ = ⊥
+-- Each chain of each rule has at least two items.
+abbrev pub HasLongChains : Spec → Type 0
+HasLongChains spec = (rule : FlowRule) → Contains spec.control rule → (chain : Chain) → Contains rule.chains chain → 2 ≤ length chain.items
 
-abbrev pub IsHead : Pattern → Type 0
-IsHead p = IsHeadIn (pattern_layer p)
+-- An item names an argument that the head of its rule lacks.
+abbrev pub IsUnboundItem : FlowRule → ItemKind → Type 0
+IsUnboundItem rule (item.Whole x) = argument rule x ≡ None
+IsUnboundItem rule (item.Single x) = argument rule x ≡ None
+IsUnboundItem rule _ = ⊥
 
--- an argument that an item names is a variable of the head
-abbrev pub IsNamed : FlowRule → ItemKind → Type 0
-IsNamed rule (item.Whole x) = IsSome (argument rule x)
-IsNamed rule (item.Single x) = IsSome (argument rule x)
-IsNamed rule _ = Unit {0}
+-- Each argument that an item names is a variable of the head of its rule.
+abbrev pub HasBoundItems : Spec → Type 0
+HasBoundItems spec = (rule : FlowRule) → Contains spec.control rule → (chain : Chain) → Contains rule.chains chain → (it : Item) → Contains chain.items it → ¬ IsUnboundItem rule it.kind
 
 -- the head of a rule has fewer than 2^32 arguments, so that their numbers are steps of a path
 abbrev pub HasSmallHead : FlowRule → Type 0

@@ -1,4 +1,3 @@
-pub mod Accepted
 pub mod Control
 pub mod Graph
 pub mod Matching

@@ -1,4 +1,4 @@
-ghost use Rattle.flow_syntax.specs.Accepted.{IsAccepted};
+ghost use Rattle.flow_syntax.specs.Control.{HasBoundItems, HasLongChains};
 
 use crate::rule::FlowRule;
 use flow_term::{List, Text};
@@ -19,5 +19,6 @@ pub struct Spec {
 #[derive(Drop)]
 pub struct TypedSpec {
     pub spec: Spec,
-    pub ghost accepted: { ∥ IsAccepted spec ∥₁ },
+    pub ghost long_chains: { HasLongChains spec },
+    pub ghost bound_items: { HasBoundItems spec },
 }

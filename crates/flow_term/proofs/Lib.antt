@@ -1,5 +1,4 @@
 pub mod Lists
 pub mod Positions
 pub mod Sizes
-pub mod OrdersLemmas
 pub mod Same

@@ -23,7 +23,7 @@ path_itself : (p : List ℕ) → pointwise ◌==◌ p p ≡ true
 path_itself [] = refl
 path_itself (n ∷ p) = both (n == n) (pointwise ◌==◌ p p) (eqb_itself n) (path_itself p)
 
-point_same : (a b : Point) → point.ghosts.eq a b ≡ true → a ≡ b
+pub point_same : (a b : Point) → point.ghosts.eq a b ≡ true → a ≡ b
 point_same (In p) (In q) h = ap In (path_same p q h)
 point_same (Out p) (Out q) h = ap Out (path_same p q h)
 point_same (Node p) (Node q) h = ap Node (path_same p q h)
@@ -31,7 +31,7 @@ point_same (Start p) (Start q) h = ap Start (path_same p q h)
 point_same (End p) (End q) h = ap End (path_same p q h)
 point_same _ _ h = cc
 
-point_itself : (a : Point) → point.ghosts.eq a a ≡ true
+pub point_itself : (a : Point) → point.ghosts.eq a a ≡ true
 point_itself (In p) = path_itself p
 point_itself (Out p) = path_itself p
 point_itself (Node p) = path_itself p

@@ -1,4 +1,8 @@
+pub mod Elements
+pub mod ElementsLaws
+pub mod GraphLaws
 pub mod Lending
+pub mod Nodes
 pub mod Orders
 pub mod Paths
 pub mod Trees

@@ -1,11 +1,13 @@
-ghost use Rattle.std.specs.Prelude.{◌≡◌, ◌==◌, IfOk, string_bytes};
+//! Paths: where a position of a tree is.
+ghost use Rattle.std.specs.Prelude.{◌≡◌, ◌==◌, ◌++◌, IfOk, OnOk, string_bytes};
 ghost use Rattle.std.proofs.Common.{rules};
 ghost use Rattle.std.specs.Cmp.{partial_order_from_own_ties};
 ghost use Rattle.std.specs.Cmp.Rules.{comparing, hashing};
 ghost use Rattle.std.specs.Cmp.Lexicographic.{pointwise};
 ghost use Rattle.std.specs.Hash as fed;
+ghost use Rattle.std.specs.List.{flat_map};
 ghost use Rattle.std.specs.Ordering.{as_partial_cmp};
-ghost use Rattle.flow_term.specs.Paths.{path_cmp, path_text};
+ghost use Rattle.flow_term.specs.Paths.{path_cmp, path_text, step_text};
 
 use crate::list::List;
 use std::alloc::{AllocError, Global};
@@ -32,6 +34,15 @@ impl Path {
         ensures { result ≡ steps.items }
     {
         Path { steps }
+    }
+
+    /// An equal path.
+    pub fn duplicate(&self) -> Result<Path, AllocError>
+        ensures { IfOk result (λ path. path ≡ self.now) }
+    {
+        Ok(Path {
+            steps: self.steps.clone()?,
+        })
     }
 
     pub fn as_slice(&self) -> &[u32]
@@ -89,22 +100,37 @@ impl Hash for Path {
     }
 }
 
-/// The text of a path.
+/// The text of a path: `/` for the root, else `/` and the child number for each step.
+/// Fails only for want of memory.
 pub fn write_path(alloc: Global, path: &Path) -> Result<List<u8>, AllocError>
     ensures { IfOk result (λ bytes. bytes ≡ path_text path.now) }
 {
-    Ok(List::from_vec(text_of(alloc, path.as_slice())?.into_bytes()))
+    let mut text = String::new(alloc);
+    push_path(&mut text, path)?;
+    Ok(List::from_vec(text.into_bytes()))
 }
 
-fn text_of(alloc: Global, steps: &[u32]) -> Result<String, AllocError>
-    ensures { IfOk result (λ text. string_bytes text ≡ path_text steps.now) }
+/// Adds the text of a path. After want of memory a part of it may be there.
+pub fn push_path(text: &mut String, path: &Path) -> Result<(), AllocError>
+    ensures { OnOk result (string_bytes text.new ≡ string_bytes text.old ++ path_text path.now) }
+{
+    push_steps(text, path.as_slice())
+}
+
+fn push_steps(text: &mut String, steps: &[u32]) -> Result<(), AllocError>
+    ensures { OnOk result (string_bytes text.new ≡ string_bytes text.old ++ path_text steps.now) }
 {
     if steps.is_empty() {
-        return String::from_str(alloc, "/");
+        return text.push_str("/");
     }
-    let mut text = String::new(alloc);
+    push_each(text, steps)
+}
+
+fn push_each(text: &mut String, steps: &[u32]) -> Result<(), AllocError>
+    ensures { OnOk result (string_bytes text.new ≡ string_bytes text.old ++ flat_map step_text steps.now) }
+{
     for step in steps {
         write!(text, "/{step}")?;
     }
-    Ok(text)
+    Ok(())
 }

@@ -1,6 +1,3 @@
-use Rattle.std.proofs.Common.{List, sym, subst}
-use Rattle.flow_term.specs.declared.graph.Link.{Link}
-use Rattle.flow_links.specs.Below.{Adds}
 use Rattle.flow_links.proofs.Once.{Adds-insert}
 use Rattle.flow_links.proofs.link_set.LinkSet.insert.Goals as goal
 

@@ -1,4 +1,4 @@
-use Rattle.std.proofs.Common.{ap, ◌∙◌, subst, sym, List}
+use Rattle.std.proofs.Common.{subst, sym, List}
 use Rattle.flow_term.specs.declared.graph.Link.{Link}
 use Rattle.flow_term.specs.Orders.{EachOnce}
 use Rattle.flow_links.proofs.Outcomes.{both_ok}

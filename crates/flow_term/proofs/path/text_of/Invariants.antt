@@ -1,7 +1,0 @@
-use Rattle.std.proofs.Common.{◌≡◌, take, string_bytes}
-use Rattle.std.specs.List.{flat_map}
-use Rattle.flow_term.specs.Paths.{step_text}
-use Rattle.flow_term.proofs.path.text_of.Given as goal
-
-abbrev pub invariant-loop-step : goal.invariant-loop-step
-invariant-loop-step l = string_bytes l.text ≡ flat_map step_text (take l.step-index l.steps)

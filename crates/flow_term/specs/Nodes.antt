@@ -1,0 +1,16 @@
+-- The texts of nodes.
+use Rattle.std.specs.Prelude.{ℕ, List, ◌++◌, codes}
+use Rattle.flow_term.specs.declared.graph.Node.{Node}
+use Rattle.flow_term.specs.declared.graph.NodeKind.{NodeKind}
+use Rattle.flow_term.specs.declared.graph.NodeKind.TheVariants.{Start, Node as Single, End}
+use Rattle.flow_term.specs.Paths.{path_text}
+
+-- what a node is at its position
+abbrev pub kind_text : NodeKind → List ℕ
+kind_text Start = codes ":start"
+kind_text Single = codes ":node"
+kind_text End = codes ":end"
+
+-- a node is its path, and what it is there
+abbrev pub node_text : Node → List ℕ
+node_text n = path_text n.path ++ kind_text n.kind
