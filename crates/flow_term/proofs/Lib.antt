@@ -1,4 +1,7 @@
 pub mod Lists
-pub mod Positions
-pub mod Sizes
+pub mod NodeTexts
+pub mod Outcomes
+pub mod AlongPaths
 pub mod Same
+pub mod Sizes
+pub mod StepTexts

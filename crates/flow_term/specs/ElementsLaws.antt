@@ -89,7 +89,7 @@ told_layer : (x : Elem-F ((a : Elem) × IsTold a)) → IsTold (roll-Elem (map-El
 told_layer x y e =
     let layer : Elem-F Elem = map-Elem ((a : Elem) × IsTold a) Elem (λ a. a.0) x in
     let same : layer_cmp (λ (a : (a : Elem) × IsTold a). derived a.0) x (out-Elem y) ≡ Equal =
-        sym (layer_cmp-map (λ (a : (a : Elem) × IsTold a). a.0) derived x (out-Elem y)) ∙ sym (by_layers layer (out-Elem y)) ∙ ap (derived (roll-Elem layer)) (roll-out-Elem y) ∙ e in
+    sym (layer_cmp-map (λ (a : (a : Elem) × IsTold a). a.0) derived x (out-Elem y)) ∙ sym (by_layers layer (out-Elem y)) ∙ ap (derived (roll-Elem layer)) (roll-out-Elem y) ∙ e in
     ap roll-Elem (same_layers x (out-Elem y) same) ∙ roll-out-Elem y
 
 -- elements that tie are the same

@@ -1,9 +1,10 @@
+pub mod Annotations
 pub mod Elements
 pub mod ElementsLaws
+pub mod formers
 pub mod GraphLaws
 pub mod Lending
 pub mod Nodes
 pub mod Orders
 pub mod Paths
 pub mod Trees
-pub mod formers

@@ -1,5 +1,5 @@
 -- Trees: their positions, and what a replacement leaves.
-use Rattle.std.specs.Prelude.{ℕ, ◌+◌, max, List, [], ◌∷◌, sum, Option, Some, IsSome, slice_get, slice_set, option_map, option_and_then, unwrap_or}
+use Rattle.std.specs.Prelude.{ℕ, ◌+◌, max, List, [], ◌∷◌, map, sum, Option, Some, IsSome, slice_get, slice_set, option_map, option_and_then, unwrap_or}
 use Rattle.flow_term.specs.declared.term.Term.{Term, out-Term, roll-Term, fold-Term}
 use Rattle.flow_term.specs.declared.term.Kind.{out-Kind, roll-Kind}
 use Rattle.flow_term.specs.declared.term.Kind.TheOpen.{Kind-F}
@@ -58,3 +58,7 @@ position_count = fold-Term ℕ ℕ (λ kind. sum (parts kind)) (λ t. 1 + t.kind
 -- 1 for a leaf; annotations count as children
 abbrev pub term_depth : Term → ℕ
 term_depth = fold-Term ℕ ℕ (λ kind. greatest (parts kind)) (λ t. 1 + max t.kind (greatest t.annos))
+
+-- the depth of the deepest, or 0
+abbrev pub deepest : List Term → ℕ
+deepest ts = greatest (map term_depth ts)

@@ -74,17 +74,14 @@ impl Element for Edge {
 /// positions as paths, integers by value, and pairs by the first part and then the second.
 pub fn elements_are_ordered()
     ensures { (x y : Elem) → ⟦<Elem as Ord>⟧.cmp x y ≡ elem_cmp x y }
-{
-}
+{}
 
 /// Nodes are ordered by path, a prefix before what continues it, and then by kind: `Start`, `Node`, `End`.
 pub fn nodes_are_ordered()
     ensures { (x y : Node) → ⟦<Node as Ord>⟧.cmp x y ≡ node_cmp x y }
-{
-}
+{}
 
 /// Edges are ordered by source, and then by target.
 pub fn edges_are_ordered()
     ensures { (x y : Edge) → ⟦<Edge as Ord>⟧.cmp x y ≡ edge_cmp x y }
-{
-}
+{}

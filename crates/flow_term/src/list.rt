@@ -1,4 +1,4 @@
-ghost use Rattle.std.specs.Prelude.{◌≡◌, ◌<◌, [], ◌∷◌, ◌++◌, length, slice_get, OnOk, OnErr};
+ghost use Rattle.std.specs.Prelude.{◌≡◌, ◌<◌, [], ◌∷◌, ◌++◌, length, slice_get, IfNone, IfSome, OnOk, OnErr};
 
 use std::alloc::{AllocError, Global};
 use std::marker::Model;
@@ -56,6 +56,21 @@ impl<T> List<T> {
         ensures { result ≡ length self.now }
     {
         self.items.len()
+    }
+
+    /// Takes out the last item, if there is one.
+    pub fn pop(&mut self) -> Option<T>
+        ensures last { IfSome result (λ item. self.old ≡ self.new ++ item ∷ []) }
+        ensures empty { IfNone result ((self.old ≡ []) × (self.new ≡ [])) }
+    {
+        self.items.pop()
+    }
+
+    pub fn into_vec(self) -> Vec<T>
+        ensures { result.items ≡ self }
+    {
+        let List { items } = self;
+        items
     }
 }
 

@@ -1,4 +1,4 @@
-ghost use Rattle.std.specs.Prelude.{◌≡◌, ◌==◌, string_bytes, IfOk};
+ghost use Rattle.std.specs.Prelude.{◌≡◌, ◌==◌, ◌<◌, ◌↔◌, [], ◌∷◌, ◌++◌, string_bytes, IfOk, IfSome, IsSome, IsUtf8, OnErr, OnOk};
 ghost use Rattle.std.proofs.Common.{rules};
 ghost use Rattle.std.specs.Cmp.{partial_order_from_own_ties};
 ghost use Rattle.std.specs.Cmp.Rules.{comparing, hashing};
@@ -6,7 +6,8 @@ ghost use Rattle.std.specs.Cmp.Lexicographic.{pointwise, slice_cmp};
 ghost use Rattle.std.specs.Hash as fed;
 ghost use Rattle.std.specs.Ordering.{as_partial_cmp, nat_cmp};
 
-use std::alloc::AllocError;
+use crate::list::List;
+use std::alloc::{AllocError, Global};
 use std::cmp::Ordering;
 use std::hash::{Hash, Hasher};
 use std::marker::Model;
@@ -30,6 +31,34 @@ impl Text {
         ensures { result ≡ string_bytes text }
     {
         Text { text }
+    }
+
+    pub fn new(alloc: Global) -> Text
+        ensures { result ≡ [] }
+    {
+        Text {
+            text: String::new(alloc),
+        }
+    }
+
+    /// The text of these bytes, if they are UTF-8.
+    pub fn from_utf8(bytes: List<u8>) -> Option<Text>
+        ensures found { IfSome result (λ text. text ≡ bytes) }
+        ensures utf8 { IsSome result ↔ IsUtf8 bytes }
+    {
+        match String::from_utf8(bytes.into_vec()) {
+            Ok(text) => Some(Text { text }),
+            Err(_) => None,
+        }
+    }
+
+    /// Puts a byte of ASCII at the end.
+    pub fn push_ascii(&mut self, byte: u8) -> Result<(), AllocError>
+        requires { byte < 128 }
+        ensures ok { OnOk result (self.new ≡ self.old ++ byte ∷ []) }
+        ensures err { OnErr result (self.new ≡ self.old) }
+    {
+        self.text.push(char::from(byte))
     }
 
     pub fn duplicate(&self) -> Result<Text, AllocError>

@@ -1,6 +1,6 @@
-ghost use Rattle.std.specs.Prelude.{◌≡◌, sum_by, ◌<◌, ◌^◌, IfOk, IfErr, None, Some, slice_get, slice_set, option_map, option_and_then, unwrap_or};
+ghost use Rattle.std.specs.Prelude.{◌≡◌, IfOk, IfErr, None, Some, slice_get, slice_set, option_map, option_and_then, unwrap_or};
 ghost use Rattle.std.specs.Option.{option_copied};
-ghost use Rattle.flow_term.specs.Trees.{At, Put, term_size};
+ghost use Rattle.flow_term.specs.Trees.{At, Put};
 
 use crate::list::List;
 use crate::path::Path;
@@ -66,27 +66,4 @@ fn replace_item(
         None => Err((NoPosition, new)),
         Some(item) => replace_below(item, steps, new),
     }
-}
-
-/// How many terms there are in a term, those inside annotations included.
-#[cycle(size)]
-#[tactic(auto, using(crate::proofs::Sizes::term_size_out, std::proofs::lemmas::List::Sums::sum_by_more, std::proofs::lemmas::List::Sums::sum_by_more_le))]
-pub fn size(term: &Term) -> u64
-    requires { term_size term.now < 2 ^ 32 }
-    ensures { result ≡ term_size term.now }
-{
-    1 + size_of_all(term.children()) + size_of_all(term.annos.as_slice())
-}
-
-#[cycle(size)]
-#[tactic(auto, using(crate::proofs::Sizes::term_size_out, std::proofs::lemmas::List::Sums::sum_by_more, std::proofs::lemmas::List::Sums::sum_by_more_le))]
-fn size_of_all(terms: &[Term]) -> u64
-    requires { sum_by term_size terms.now < 2 ^ 32 }
-    ensures { result ≡ sum_by term_size terms.now }
-{
-    let mut total = 0;
-    for term in terms {
-        total += size(term);
-    }
-    total
 }

@@ -3,7 +3,7 @@ use Rattle.std.specs.Prelude.{option_and_then}
 use Rattle.std.specs.Option.{option_copied}
 use Rattle.flow_term.specs.declared.term.Term.{Term}
 use Rattle.flow_term.specs.Trees.{At}
-use Rattle.flow_term.proofs.Positions.{At_next}
+use Rattle.flow_term.proofs.AlongPaths.{At_next}
 use Rattle.flow_term.proofs.tree.term_at.Goals as goal
 
 pub returns-in_err-at : goal.returns-in_err-at

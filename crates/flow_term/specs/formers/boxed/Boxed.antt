@@ -57,7 +57,7 @@ module _ (From To : RattleType) (f : From.Denot → To.Denot) where
       (outside.the_row From).coded (outside.the_row To).coded (invariant From.Denot) (invariant To.Denot)
       (λ u p q. refl) (λ u p q. refl) (λ u e. tt) (λ u e. tt) (over (inside.the_row From)) (over (inside.the_row To))
       (struct_places (inside.the_type From) (inside.the_type To) ((λ b. holding b (f b.value)), tt) _ (λ d. refl) refl
-       (laid _ _ _ (box_places alike), tt))
+      (laid _ _ _ (box_places alike), tt))
 
   pub the_codes_placed : Recodes From To f → Recodes (outside.the_row From) (outside.the_row To) ((the_former this).map From.Denot To.Denot f)
   the_codes_placed same value = same value

@@ -1,7 +1,7 @@
 use Rattle.std.specs.Prelude.{sum_by}
 use Rattle.std.proofs.Common.{◌≡◌, ◌+◌, ◌*◌, take}
 use Rattle.flow_term.specs.Trees.{term_size}
-use Rattle.flow_term.proofs.tree.+size.Given as goal
+use Rattle.flow_term.proofs.measure.+size.Given as goal
 
 abbrev pub decreases-size : goal.decreases-size
 decreases-size l = 2 * term_size l.term.now
