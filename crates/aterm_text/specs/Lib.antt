@@ -1,0 +1,9 @@
+pub mod Answers
+pub mod Bytes
+pub mod Faults
+pub mod Grammar
+pub mod Laws
+pub mod Machine
+pub mod Numbers
+pub mod Open
+pub mod Written
