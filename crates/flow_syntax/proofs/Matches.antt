@@ -4,12 +4,13 @@ use Rattle.std.specs.Prelude.{Contains}
 use Rattle.std.proofs.lemmas.List.{length-map}
 use Rattle.std.proofs.lemmas.List.Elements.{Contains-get_or, Contains-append_right}
 use Rattle.std.proofs.lemmas.Option.{same_Some}
+use Rattle.flow_term.specs.Annotations.{term_layer}
 use Rattle.flow_term.specs.Trees.{children}
 use Rattle.flow_syntax.specs.Control.{arguments_in}
 use Rattle.flow_term.specs.declared.term.Term.{Term}
 use Rattle.flow_syntax.specs.declared.pattern.Pattern.{Pattern, Pattern-F, roll-Pattern, out-Pattern, fold-roll-Pattern, fold_out-Pattern}
 use Rattle.flow_syntax.specs.declared.pattern.PatternKind.{PatternKind, PatternKind-F, roll-PatternKind, fold-PatternKind, fold-roll-PatternKind, fold_out-PatternKind, map-PatternKind}
-use Rattle.flow_syntax.specs.Matching.{matches, Matcher, match_layer, PatternLayer, pattern_layer, fit, is_apply, term_layer}
+use Rattle.flow_syntax.specs.Matching.{matches, Matcher, match_layer, PatternLayer, pattern_layer, fit, is_apply}
 
 abbrev outer_step : Pattern-F Matcher Matcher → Matcher
 outer_step p = p.kind

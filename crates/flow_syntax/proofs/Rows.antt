@@ -4,6 +4,7 @@ use Rattle.std.specs.Prelude.{codes}
 use Rattle.flow_term.specs.declared.term.Term.{Term, roll-Term, out-roll-Term}
 use Rattle.flow_term.specs.declared.term.Kind.{Kind, Kind-F, roll-Kind, out-roll-Kind}
 use Rattle.flow_term.specs.Trees.{children}
+use Rattle.flow_syntax.specs.Grammar.{control_spec}
 use Rattle.flow_syntax.specs.declared.pattern.Pattern.{Pattern, roll-Pattern, out-roll-Pattern}
 use Rattle.flow_syntax.specs.declared.pattern.PatternKind.{PatternKind, PatternKind-F, roll-PatternKind, out-roll-PatternKind}
 use Rattle.flow_syntax.specs.declared.rule.FlowRule.{FlowRule}
@@ -59,7 +60,7 @@ loop_rule = record {
 }
 
 abbrev spec : Spec
-spec = record { name = record { text = codes "m"; place = 0 }; control = prog_rule ∷ loop_rule ∷ [] }
+spec = control_spec (record { text = codes "m"; place = 0 }) (prog_rule ∷ loop_rule ∷ [])
 
 the_children : children tree ≡ items (empty_loop ∷ []) ∷ []
 the_children = simp (out-roll-Term, out-roll-Kind)

@@ -3,6 +3,7 @@ use Rattle.std.specs.Prelude.{◌<◌, ◌≤◌, ◌^◌, length, Contains, ◌
 use Rattle.std.specs.List.{list_any, position_from}
 use Rattle.std.specs.Option.{option_map_or}
 use Rattle.flow_term.specs.declared.term.Term.{Term}
+use Rattle.flow_term.specs.Annotations.{term_layer}
 use Rattle.flow_term.specs.Trees.{At, children}
 use Rattle.flow_syntax.specs.declared.pattern.Pattern.{Pattern}
 use Rattle.flow_syntax.specs.declared.pattern.PatternKind.TheOpen.{PatternKind-F}
@@ -12,7 +13,7 @@ use Rattle.flow_syntax.specs.declared.rule.Item.{Item}
 use Rattle.flow_syntax.specs.declared.rule.ItemKind.{ItemKind}
 use Rattle.flow_syntax.specs.declared.rule.ItemKind.TheVariants as item
 use Rattle.flow_syntax.specs.declared.spec.Spec.{Spec}
-use Rattle.flow_syntax.specs.Matching.{PatternLayer, pattern_layer, term_layer, is_list, matches}
+use Rattle.flow_syntax.specs.Matching.{PatternLayer, pattern_layer, is_list, matches}
 
 -- the arguments of a head
 abbrev pub arguments_in : PatternLayer → List Pattern

@@ -14,7 +14,8 @@ use Rattle.flow_syntax.specs.declared.rule.Item.{Item}
 use Rattle.flow_syntax.specs.declared.rule.ItemKind.{ItemKind}
 use Rattle.flow_syntax.specs.declared.rule.ItemKind.TheVariants as item
 use Rattle.flow_syntax.specs.declared.spec.Spec.{Spec}
-use Rattle.flow_syntax.specs.Matching.{term_layer, is_list}
+use Rattle.flow_term.specs.Annotations.{term_layer}
+use Rattle.flow_syntax.specs.Matching.{is_list}
 use Rattle.flow_syntax.specs.Control.{argument, rule_for, entered_at, Counts, CountsBy}
 
 -- the position of a child

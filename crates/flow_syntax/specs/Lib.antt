@@ -1,3 +1,13 @@
+pub mod Accepted
 pub mod Control
+pub mod Faulting
+pub mod Faults
+pub mod FirstForm
+pub mod Gives
+pub mod Grammar
 pub mod Graph
+pub mod Lexing
 pub mod Matching
+pub mod Parsing
+pub mod TokenFaults
+pub mod Tokens
