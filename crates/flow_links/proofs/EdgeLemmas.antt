@@ -146,6 +146,7 @@ module _ (spec : Spec) (tree : Term) (links : List Link) (exact : (x : Link) →
       first_numbered : (inner : List Point) (a b : Point) → IsLinked spec tree (a ∷ inner ++ b ∷ []) → Contains points a
       first_numbered [] a b linked = (graph.has (link a b) ((exact (link a b)).1 linked.0)).0
       first_numbered (x ∷ inner) a b linked = (graph.has (link a x) ((exact (link a x)).1 linked.0)).0
+
       from_edge : IsEdge spec tree e.from e.to → IsEdgeBelow points rows (length points) e
       from_edge h =
           let start : (j : ℕ) × (slice_get points j ≡ Some (point_of e.from)) = index_in points (point_of e.from) (first_numbered h.inner (point_of e.from) (point_of e.to) h.linked) in

@@ -12,7 +12,8 @@ use Rattle.flow_term.specs.declared.graph.Link.{Link}
 use Rattle.flow_syntax.specs.declared.rule.FlowRule.{FlowRule}
 use Rattle.flow_syntax.specs.declared.rule.Chain.{Chain}
 use Rattle.flow_syntax.specs.declared.rule.Item.{Item}
-use Rattle.flow_syntax.specs.Matching.{is_list, term_layer}
+use Rattle.flow_term.specs.Annotations.{term_layer}
+use Rattle.flow_syntax.specs.Matching.{is_list}
 use Rattle.flow_syntax.specs.Graph.{arriving, leaving, below, LinksAt, in_chain, through_empty, through_other}
 use Rattle.flow_links.specs.Below.{Adds}
 use Rattle.flow_links.specs.Here.{PairsBelow, ChainsOf, RuleLinks, NextBelow, ListLinks, no_items, into_first, to_next, from_last, EnteredLinks, of_list, of_other}
@@ -167,9 +168,11 @@ here_split matching entered t path a b = (
         go (suc n) k f = LinksAt.into_first n e (list, k ∙ sym (add-one n)) p q
     of_items e list (to_next p) = LinksAt.to_next (length (children t)) p.k e (list, refl) p.before p.leaves p.arrives
     of_items e list (from_last k same p q) = LinksAt.from_last k e (list, sym same) p q
+
     joined : entered ≡ true → EnteredLinks matching t path a b → LinksAt matching entered t path a b
     joined e (of_list list p) = of_items e list p
     joined e (of_other other roots p q) = through_other e other roots p q
+
     split : LinksAt matching entered t path a b → RuleLinks matching entered path a b ⊎ ((entered ≡ true) × EnteredLinks matching t path a b)
     split (in_chain rule chain left right counts has pair leaves arrives) = inl (record {
       rule = rule;

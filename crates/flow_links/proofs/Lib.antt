@@ -4,7 +4,6 @@ pub mod EndLemmas
 pub mod HereLemmas
 pub mod NumberLemmas
 pub mod Once
-pub mod Outcomes
 pub mod ReachLemmas
 pub mod SetLemmas
 pub mod SizeLemmas

@@ -112,10 +112,12 @@ module _ (links : List Link) (points : List Point) (rows : List (List ℕ)) (gra
     where
       grown : (j k : ℕ) → IsLinkAt links points j k → IsLinkAt links (points ++ p ∷ []) j k
       grown j k h = record { a = h.a; b = h.b; at_source = get_longer points (p ∷ []) j h.a h.at_source; at_target = get_longer points (p ∷ []) k h.b h.at_target; among = h.among }
+
       place : (j : ℕ) (a : Point) → slice_get (points ++ p ∷ []) j ≡ Some a → Contains points a → slice_get points j ≡ Some a
       place j a at inside =
           let there : (i : ℕ) × (slice_get points i ≡ Some a) = index_in points a inside in
           subst (λ (i : ℕ). slice_get points i ≡ Some a) (own there.0 j a (get_longer points (p ∷ []) there.0 a there.1) at) there.1
+
       shrunk : (j k : ℕ) → IsLinkAt links (points ++ p ∷ []) j k → IsLinkAt links points j k
       shrunk j k h = record {
         a = h.a;
@@ -144,14 +146,18 @@ module _ (links : List Link) (points : List Point) (rows : List (List ℕ)) (gra
     where
       within : j < length rows
       within = let f : j < length points = slice_get_within points j a at_j in let e : length rows ≡ length points = graph.sizes in omega arith
+
       has : (x : Link) → Contains links x ⊎ (link a b ≡ x) → Contains points x.from × Contains points x.to
       has x (inl h) = graph.has x h
       has x (inr e) = (subst (λ (y : Link). Contains points y.from) e (contains_at points j a at_j), subst (λ (y : Link). Contains points y.to) e (contains_at points k b at_k))
+
       more : (i m : ℕ) → IsLinkAt links points i m → IsLinkAt (links ++ link a b ∷ []) points i m
       more i m h = record { a = h.a; b = h.b; at_source = h.at_source; at_target = h.at_target; among = Contains-append_left links (link a b ∷ []) (link h.a h.b) h.among }
+
       here : (m : ℕ) → Contains (row rows j) m ⊎ (k ≡ m) → IsLinkAt (links ++ link a b ∷ []) points j m
       here m (inl h) = more j m ((graph.arrows j m).0 h)
       here m (inr e) = record { a = a; b = b; at_source = at_j; at_target = ap (slice_get points) (sym e) ∙ at_k; among = Contains-push links (link a b) }
+
       forth : (i m : ℕ) (c : Bool) → (i == j) ≡ c → IsArrow (slice_set rows j (row rows j ++ k ∷ [])) i m → IsLinkAt (links ++ link a b ∷ []) points i m
       forth i m true e h =
           let same : i ≡ j = eqb-true i j e in
@@ -160,6 +166,7 @@ module _ (links : List Link) (points : List Point) (rows : List (List ℕ)) (gra
           (subst (λ (n : ℕ). IsArrow (slice_set rows j (row rows j ++ k ∷ [])) n m) same h))))
       forth i m false e h =
           more i m ((graph.arrows i m).0 (subst (λ (r : List ℕ). Contains r m) (row_set_other rows j i (row rows j ++ k ∷ []) (eqb-false i j e)) h))
+
       kept : (i m : ℕ) (c : Bool) → (i == j) ≡ c → IsArrow rows i m → IsArrow (slice_set rows j (row rows j ++ k ∷ [])) i m
       kept i m true e h =
           let same : i ≡ j = eqb-true i j e in
@@ -167,6 +174,7 @@ module _ (links : List Link) (points : List Point) (rows : List (List ℕ)) (gra
           (subst (λ (r : List ℕ). Contains r m) (sym (row_set_same rows j (row rows j ++ k ∷ []) within))
           (Contains-append_left (row rows j) (k ∷ []) m (subst (λ (n : ℕ). IsArrow rows n m) same h)))
       kept i m false e h = subst (λ (r : List ℕ). Contains r m) (sym (row_set_other rows j i (row rows j ++ k ∷ []) (eqb-false i j e))) h
+
       back : (i m : ℕ) → (h : IsLinkAt (links ++ link a b ∷ []) points i m) → Contains links (link h.a h.b) ⊎ (link a b ≡ link h.a h.b) → (c : Bool) → (i == j) ≡ c
           → IsArrow (slice_set rows j (row rows j ++ k ∷ [])) i m
       back i m h (inl before) c e = kept i m c e ((graph.arrows i m).1 (record { a = h.a; b = h.b; at_source = h.at_source; at_target = h.at_target; among = before }))

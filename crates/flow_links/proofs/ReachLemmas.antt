@@ -19,14 +19,18 @@ pub gains_insert : (ks : List ℕ) (n : ℕ) → Gains ks (insert_key ◌==◌ k
 gains_insert ks n = by (list_any (λ k. n == k) ks) refl
   where
     by : (b : Bool) → list_any (λ k. n == k) ks ≡ b → Gains ks (insert_key ◌==◌ ks n) (λ x. x ≡ n)
-    by true e = rw e (record { each = λ x. (
-      λ h. inl h,
-      λ h. elim h [ inl before ↦ before | inr same ↦ subst (λ (k : ℕ). Contains ks k) (sym same) (Contains-list_any ◌==◌ eqb-true ks n e) ],
-    ) })
-    by false e = rw e (record { each = λ x. (
-      λ h. elim (Contains-push_cases ks n x h) [ inl before ↦ inl before | inr same ↦ inr (sym same) ],
-      λ h. elim h [ inl before ↦ Contains-append_left ks (n ∷ []) x before | inr same ↦ subst (λ (k : ℕ). Contains (ks ++ n ∷ []) k) (sym same) (Contains-push ks n) ],
-    ) })
+    by true e = rw e (record {
+      each = λ x. (
+        λ h. inl h,
+        λ h. elim h [ inl before ↦ before | inr same ↦ subst (λ (k : ℕ). Contains ks k) (sym same) (Contains-list_any ◌==◌ eqb-true ks n e) ],
+      );
+    })
+    by false e = rw e (record {
+      each = λ x. (
+        λ h. elim (Contains-push_cases ks n x h) [ inl before ↦ inl before | inr same ↦ inr (sym same) ],
+        λ h. elim h [ inl before ↦ Contains-append_left ks (n ∷ []) x before | inr same ↦ subst (λ (k : ℕ). Contains (ks ++ n ∷ []) k) (sym same) (Contains-push ks n) ],
+      );
+    })
 
 pub longer_insert : (ks : List ℕ) (n : ℕ) → (more : List ℕ) × (insert_key ◌==◌ ks n ≡ ks ++ more)
 longer_insert ks n = by (list_any (λ k. n == k) ks) refl
@@ -79,6 +83,7 @@ module _ (points : List Point) (rows : List (List ℕ)) (from : ℕ) where
     where
       among : (i n : ℕ) → slice_get found i ≡ Some n → Contains found n
       among i n at = contains_at found i n at
+
       by : (i n : ℕ) → (i ≡ next) ⊎ (i < next) → slice_get (found ++ order.0) i ≡ Some n → IsInnerAt points n → (k : ℕ) → IsArrow rows n k → Contains new k
       by i n (inr before) at inner k arrow = (gains.each k).1 (inl (kept.done i n before (get_shorter found order.0 i n (omega arith) at) inner k arrow))
       by i n (inl same) at inner k arrow =
@@ -94,10 +99,12 @@ module _ (points : List Point) (rows : List (List ℕ)) (from : ℕ) where
       kept.done there.0 mid (let f : there.0 < length found = there.1 in omega arith) (slice_get-get_or found there.0 mid there.1 ∙ ap Some there.2) inner k arrow
 
   pub search_ends : (found : List ℕ) (next : ℕ) → IsSearch points rows from found next → length found ≤ next → Gains [] found (Leads points rows from)
-  search_ends found next kept end = record { each = λ k. (
-    λ h. inr (kept.sound k h),
-    λ h. elim h [ inl before ↦ absurd (none_in_nil k before) | inr leads ↦ all_found found next kept end k leads ],
-  ) }
+  search_ends found next kept end = record {
+    each = λ k. (
+      λ h. inr (kept.sound k h),
+      λ h. elim h [ inl before ↦ absurd (none_in_nil k before) | inr leads ↦ all_found found next kept end k leads ],
+    );
+  }
 
   last_arrow : (k : ℕ) → Leads points rows from k → (j : ℕ) × IsArrow rows j k
   last_arrow k (by_arrow to arrow) = (from, arrow)

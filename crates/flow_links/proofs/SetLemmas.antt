@@ -21,6 +21,7 @@ gains_at {K} {R} total exact old new key updates x = (
     forth : (b : Bool) → is_eq (R key x) ≡ b → cond b true (contains R old x) ≡ true → Contains old.keys x ⊎ (x ≡ key)
     forth true e h = inr (sym (exact key x ((Equal-is (R key x)).0 e)))
     forth false e h = inl ((btree_set_contains_iff total exact old x).0 h)
+
     back : (b : Bool) → is_eq (R key x) ≡ b → Contains old.keys x ⊎ (x ≡ key) → cond b true (contains R old x) ≡ true
     back true e h = refl
     back false e (inl before) = (btree_set_contains_iff total exact old x).1 before

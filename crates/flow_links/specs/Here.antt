@@ -4,7 +4,8 @@ use Rattle.flow_term.specs.declared.graph.Point.{Point}
 use Rattle.flow_syntax.specs.declared.rule.FlowRule.{FlowRule}
 use Rattle.flow_syntax.specs.declared.rule.Chain.{Chain}
 use Rattle.flow_syntax.specs.declared.rule.Item.{Item}
-use Rattle.flow_syntax.specs.Matching.{is_list, term_layer}
+use Rattle.flow_term.specs.Annotations.{term_layer}
+use Rattle.flow_syntax.specs.Matching.{is_list}
 use Rattle.flow_syntax.specs.Control.{CountsBy}
 use Rattle.flow_syntax.specs.Graph.{arriving, below, leaving}
 use Rattle.flow_term.specs.declared.graph.Point.TheVariants as point

@@ -1,12 +1,13 @@
 //! The links that one position makes.
 ghost use Rattle.std.specs.Prelude.{◌≡◌, ◌<◌, ◌^◌, ◌-◌, ◌||◌, OnOk, IfSome, IfNone, Some, true, false, length};
 ghost use Rattle.std.specs.Option.{option_copied};
+ghost use Rattle.flow_term.specs.Annotations.{term_layer};
 ghost use Rattle.flow_term.specs.Trees.{children, term_size};
 ghost use Rattle.flow_term.specs.declared.graph.Point.TheVariants.{In, Out};
 ghost use Rattle.flow_syntax.specs.declared.rule.FlowRule.{FlowRule as Rule};
 ghost use Rattle.flow_syntax.specs.Control.{HasSmallHead};
 ghost use Rattle.flow_syntax.specs.Graph.{LinksAt, below};
-ghost use Rattle.flow_syntax.specs.Matching.{is_list, term_layer};
+ghost use Rattle.flow_syntax.specs.Matching.{is_list};
 ghost use Rattle.flow_links.specs.Below.{Adds};
 ghost use Rattle.flow_links.specs.Here.{EnteredLinks, ListLinks, NextBelow, RuleLinks};
 

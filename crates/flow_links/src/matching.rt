@@ -1,44 +1,9 @@
 //! Patterns against terms.
-ghost use Rattle.std.specs.Prelude.{◌≡◌, is_some};
-ghost use Rattle.std.specs.List.{list_any};
-ghost use Rattle.flow_syntax.specs.Matching.{matches, name_in, name_of, sole_text, term_layer, fit_all};
+ghost use Rattle.std.specs.Prelude.{◌≡◌};
+ghost use Rattle.flow_syntax.specs.Matching.{matches, fit_all};
 
 use flow_syntax::{Pattern, PatternKind};
-use flow_term::{Kind, Term};
-
-/// Whether an annotation is `Decl` or `Ref` of one text.
-fn is_name(annotation: &Term) -> bool
-    ensures { result ≡ is_some (name_in (term_layer annotation.now)) }
-{
-    match &annotation.kind {
-        Kind::Apply(name, args) => (name.as_str() == "Decl" || name.as_str() == "Ref")
-            && is_sole_text(args.as_slice()),
-        _ => false,
-    }
-}
-
-fn is_sole_text(terms: &[Term]) -> bool
-    ensures { result ≡ is_some (sole_text terms.now) }
-{
-    match terms {
-        [only] => matches!(&only.kind, Kind::Str(_)),
-        _ => false,
-    }
-}
-
-/// Whether a term has a resolved name.
-#[tactic(auto, using(flow_syntax::proofs::Names::name_of_any))]
-fn has_name(term: &Term) -> bool
-    ensures { result ≡ is_some (name_of term.now) }
-{
-    has_any_name(term.annos.as_slice())
-}
-
-fn has_any_name(annotations: &[Term]) -> bool
-    ensures { result ≡ list_any (λ a. is_some (name_in (term_layer a))) annotations.now }
-{
-    annotations.iter().any(|annotation| is_name(annotation))
-}
+use flow_term::{Kind, Term, resolved_name};
 
 /// Whether the pattern matches the term.
 #[cycle(matching)]
@@ -48,7 +13,7 @@ pub fn is_match(pattern: &Pattern, term: &Term) -> bool
 {
     match &pattern.kind {
         PatternKind::Wild | PatternKind::Var(_) => true,
-        PatternKind::NameVar(_) => has_name(term),
+        PatternKind::NameVar(_) => resolved_name(term).is_some(),
         PatternKind::StrVar(_) => matches!(&term.kind, Kind::Str(_)),
         PatternKind::IntVar(_) => matches!(&term.kind, Kind::Int(_)),
         PatternKind::IntLit(number) => match &term.kind {

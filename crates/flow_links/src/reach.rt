@@ -10,7 +10,11 @@ use indexmap::IndexSet;
 use std::alloc::{AllocError, Global};
 
 /// The numbers to which one or more arrows lead from a number, over `In` and `Out` points alone.
-pub fn reached(alloc: Global, graph: &PointGraph, from: usize) -> Result<IndexSet<usize>, AllocError>
+pub fn reached(
+    alloc: Global,
+    graph: &PointGraph,
+    from: usize,
+) -> Result<IndexSet<usize>, AllocError>
     requires sizes { length graph.now.successors.items ≡ length graph.now.points.keys }
     requires within { (j k : ℕ) → IsArrow graph.now.successors.items j k → k < length graph.now.points.keys }
     requires start { from < length graph.now.points.keys }

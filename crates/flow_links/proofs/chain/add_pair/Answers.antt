@@ -2,7 +2,7 @@ use Rattle.std.proofs.Common.{◌≡◌, Some, sym, ap, ◌∙◌}
 use Rattle.std.proofs.lemmas.Option.{same_Some}
 use Rattle.flow_syntax.specs.Graph.{arriving, leaving}
 use Rattle.flow_links.proofs.BelowLemmas.{Adds-same}
-use Rattle.flow_links.proofs.Outcomes.{on_ok}
+use Rattle.flow_term.proofs.Outcomes.{on_ok}
 use Rattle.flow_links.proofs.chain.add_pair.Goals as goal
 
 pub returns : goal.returns

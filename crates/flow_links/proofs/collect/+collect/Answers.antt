@@ -9,7 +9,7 @@ use Rattle.flow_syntax.specs.Graph.{LinksAt}
 use Rattle.flow_links.specs.Below.{Adds, LinksInChildren}
 use Rattle.flow_links.proofs.BelowLemmas.{Adds-then, Adds-same, below_split, children_next}
 use Rattle.flow_links.proofs.SizeLemmas.{child_smaller, few_children, small_head}
-use Rattle.flow_links.proofs.Outcomes.{on_ok}
+use Rattle.flow_term.proofs.Outcomes.{on_ok}
 use Rattle.flow_links.proofs.collect.+collect.Goals as goal
 
 pub add_below-returns : goal.add_below-returns

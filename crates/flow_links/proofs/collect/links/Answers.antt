@@ -3,7 +3,7 @@ use Rattle.std.specs.Prelude.{◌↔◌}
 use Rattle.flow_term.specs.declared.graph.Link.{Link}
 use Rattle.flow_syntax.specs.Graph.{IsLink}
 use Rattle.flow_links.proofs.BelowLemmas.{whole_tree}
-use Rattle.flow_links.proofs.Outcomes.{if_ok}
+use Rattle.flow_term.proofs.Outcomes.{if_ok}
 use Rattle.flow_links.proofs.collect.links.Goals as goal
 
 pub returns-clause-exactly : goal.returns-clause-exactly

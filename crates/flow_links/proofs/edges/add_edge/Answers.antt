@@ -1,7 +1,7 @@
 use Rattle.std.proofs.Common.{◌≡◌}
 use Rattle.flow_syntax.specs.Graph.{IsInner, point_of}
 use Rattle.flow_links.proofs.EdgeLemmas.{edge_at, no_edge_at}
-use Rattle.flow_links.proofs.Outcomes.{on_ok}
+use Rattle.flow_term.proofs.Outcomes.{on_ok}
 use Rattle.flow_links.proofs.SetLemmas.{Gains-none, Gains-same}
 use Rattle.flow_links.proofs.edges.add_edge.Goals as goal
 

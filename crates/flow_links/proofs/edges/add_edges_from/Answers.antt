@@ -3,7 +3,7 @@ use Rattle.std.specs.Prelude.{Contains}
 use Rattle.std.proofs.lemmas.List.Elements.{Contains-get_or}
 use Rattle.flow_syntax.specs.Graph.{IsInner, point_of}
 use Rattle.flow_links.proofs.EdgeLemmas.{edges_from, no_edges_from}
-use Rattle.flow_links.proofs.Outcomes.{on_ok}
+use Rattle.flow_term.proofs.Outcomes.{on_ok}
 use Rattle.flow_links.proofs.ReachLemmas.{found_within}
 use Rattle.flow_links.proofs.SetLemmas.{Gains-all, Gains-none, Gains-same}
 use Rattle.flow_links.proofs.edges.add_edges_from.Goals as goal

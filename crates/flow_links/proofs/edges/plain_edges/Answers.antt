@@ -8,7 +8,7 @@ use Rattle.flow_term.specs.GraphLaws.{edges_ordered}
 use Rattle.flow_term.specs.Orders.{edge_cmp}
 use Rattle.flow_syntax.specs.Graph.{IsEdge, IsLink}
 use Rattle.flow_links.proofs.EdgeLemmas.{arrows_within, edges_are_ways}
-use Rattle.flow_links.proofs.Outcomes.{both_ok, if_ok, iff_then}
+use Rattle.flow_term.proofs.Outcomes.{both_ok, if_ok, iff_then}
 use Rattle.flow_links.proofs.SetLemmas.{Gains-all, sorted_alike}
 use Rattle.flow_links.proofs.edges.plain_edges.Goals as goal
 

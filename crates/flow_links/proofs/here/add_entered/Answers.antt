@@ -2,7 +2,7 @@ use Rattle.std.proofs.Common.{arith}
 use Rattle.std.specs.Option.{option_copied}
 use Rattle.flow_links.proofs.BelowLemmas.{Adds-same}
 use Rattle.flow_links.proofs.HereLemmas.{entered_list}
-use Rattle.flow_links.proofs.Outcomes.{on_ok}
+use Rattle.flow_term.proofs.Outcomes.{on_ok}
 use Rattle.flow_links.proofs.SizeLemmas.{few_children}
 use Rattle.flow_links.proofs.here.add_entered.Goals as goal
 

@@ -1,6 +1,6 @@
 use Rattle.std.proofs.Common.{arith}
 use Rattle.flow_links.proofs.BelowLemmas.{Adds-same, Adds-then}
-use Rattle.flow_links.proofs.Outcomes.{on_ok}
+use Rattle.flow_term.proofs.Outcomes.{on_ok}
 use Rattle.flow_links.proofs.HereLemmas.{empty_list, filled_list}
 use Rattle.flow_links.proofs.here.add_list.Goals as goal
 

@@ -1,7 +1,7 @@
 use Rattle.std.proofs.Common.{ap}
 use Rattle.flow_term.specs.declared.graph.Point.TheVariants.{In, Out}
 use Rattle.flow_links.proofs.BelowLemmas.{Adds-ends}
-use Rattle.flow_links.proofs.Outcomes.{on_ok}
+use Rattle.flow_term.proofs.Outcomes.{on_ok}
 use Rattle.flow_links.proofs.here.add_next.Goals as goal
 
 pub returns : goal.returns

@@ -1,7 +1,7 @@
 use Rattle.std.proofs.Common.{ap, sym, ◌∙◌}
 use Rattle.std.specs.Option.{option_copied}
 use Rattle.flow_links.proofs.BelowLemmas.{Adds-same}
-use Rattle.flow_links.proofs.Outcomes.{on_ok}
+use Rattle.flow_term.proofs.Outcomes.{on_ok}
 use Rattle.flow_links.proofs.HereLemmas.{rule_here}
 use Rattle.flow_links.proofs.here.add_rule.Goals as goal
 

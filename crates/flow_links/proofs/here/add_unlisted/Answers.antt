@@ -1,6 +1,6 @@
 use Rattle.std.specs.Option.{option_copied}
 use Rattle.flow_links.proofs.BelowLemmas.{Adds-same}
-use Rattle.flow_links.proofs.Outcomes.{on_ok}
+use Rattle.flow_term.proofs.Outcomes.{on_ok}
 use Rattle.flow_links.proofs.HereLemmas.{Adds-none, entered_through, entered_plain}
 use Rattle.flow_links.proofs.here.add_unlisted.Goals as goal
 

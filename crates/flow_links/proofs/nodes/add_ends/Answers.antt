@@ -1,4 +1,4 @@
-use Rattle.flow_links.proofs.Outcomes.{on_ok}
+use Rattle.flow_term.proofs.Outcomes.{on_ok}
 use Rattle.flow_links.proofs.SetLemmas.{Gains-then}
 use Rattle.flow_links.proofs.nodes.add_ends.Goals as goal
 

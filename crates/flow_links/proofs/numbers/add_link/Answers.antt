@@ -1,7 +1,7 @@
 use Rattle.std.proofs.Common.{ℕ, List, [], ◌∷◌, ◌++◌, sym, subst}
 use Rattle.flow_links.specs.Numbers.{IsGraphOf}
 use Rattle.flow_links.proofs.NumberLemmas.{added_arrow, added_point, kept_number}
-use Rattle.flow_links.proofs.Outcomes.{on_ok}
+use Rattle.flow_term.proofs.Outcomes.{on_ok}
 use Rattle.flow_links.proofs.numbers.add_link.Goals as goal
 
 pub returns-clause-graph : goal.returns-clause-graph

@@ -1,7 +1,7 @@
 use Rattle.std.proofs.Common.{subst, sym, List}
 use Rattle.flow_term.specs.declared.graph.Link.{Link}
 use Rattle.flow_term.specs.Orders.{EachOnce}
-use Rattle.flow_links.proofs.Outcomes.{both_ok}
+use Rattle.flow_term.proofs.Outcomes.{both_ok}
 use Rattle.flow_links.proofs.Once.{once_distinct}
 use Rattle.flow_links.proofs.link_set.LinkSet.into_list.Goals as goal
 
