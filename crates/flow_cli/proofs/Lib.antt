@@ -1,0 +1,4 @@
+pub mod FileLemmas
+pub mod GraphLemmas
+pub mod RunLemmas
+pub mod TreeLemmas

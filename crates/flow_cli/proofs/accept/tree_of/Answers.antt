@@ -1,0 +1,1 @@
+use Rattle.flow_cli.proofs.accept.tree_of.Goals as goal
