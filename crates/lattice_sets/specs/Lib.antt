@@ -1,0 +1,12 @@
+pub mod Flat
+pub mod FlatLaws
+pub mod MapLaws
+pub mod Maps
+pub mod May
+pub mod MayLaws
+pub mod Must
+pub mod MustLaws
+pub mod PairLaws
+pub mod Pairs
+pub mod SetLaws
+pub mod Sets
