@@ -1,0 +1,4 @@
+pub mod EditLemmas
+pub mod LeastLemmas
+pub mod NumberLemmas
+pub mod VisitLemmas

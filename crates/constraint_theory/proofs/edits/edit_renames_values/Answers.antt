@@ -1,0 +1,5 @@
+use Rattle.constraint_theory.proofs.EditLemmas as edits
+use Rattle.constraint_theory.proofs.edits.edit_renames_values.Goals as goal
+
+pub returns : goal.returns
+returns g c = λ same s t e tells old new edit st taint sound closed. edits.edited_values same tells s t e old new edit taint st.steps closed sound.steps_known

@@ -1,0 +1,5 @@
+use Rattle.constraint_theory.proofs.VisitLemmas as visits
+use Rattle.constraint_theory.proofs.solving.visits_within_bound.Goals as goal
+
+pub returns : goal.returns
+returns g c = λ same s tells law ks legal. visits.visits_from_begin same tells s law ks legal

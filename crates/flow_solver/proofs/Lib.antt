@@ -1,0 +1,4 @@
+pub mod BeginLemmas
+pub mod ReplayLemmas
+pub mod RunLemmas
+pub mod TurnLemmas

@@ -1,0 +1,121 @@
+//! One unknown that climbs: its bound is met exactly.
+ghost use Rattle.std.specs.Prelude.{◌≡◌, ◌∷◌, ◌<◌, []};
+
+use crate::pairs::{Pairs, listed, steps_of};
+use flow_solver::{Engine, LastPick, SettleRefusal, System, Values, Visited};
+use flow_term::List;
+use lattice_base::Steps;
+use std::alloc::{AllocError, Global};
+use std::marker::Brand;
+use std::sync::ledger::{Blank, Ledger};
+use std::test::Fail;
+
+/// The one unknown and the one key, both 0.
+#[derive(Drop)]
+struct Climb {
+    pairs: Pairs,
+    zero: List<usize>,
+    ghost zero_is: { zero ≡ 0 ∷ [] },
+}
+
+impl System for Climb {
+    ghost use Rattle.solver_examples.specs.Examples.{climb};
+    ghost use Rattle.solver_examples.specs.Laws.{climb_lawful, climb_over};
+
+    type L = Pairs;
+
+    ghost meaning = { λ _. climb };
+
+    ghost lattices = { λ s _. s.pairs };
+
+    fn unknowns(&self) -> &List<usize> {
+        &self.zero
+    }
+
+    fn keys(&self) -> &List<usize> {
+        &self.zero
+    }
+
+    fn lattice(&self, unknown: usize) -> &Pairs {
+        &self.pairs
+    }
+
+    fn target(&self, key: usize) -> usize {
+        0
+    }
+
+    fn reads(&self, key: usize) -> &List<usize> {
+        &self.zero
+    }
+
+    fn readers(&self, unknown: usize) -> &List<usize> {
+        &self.zero
+    }
+
+    fn aiming(&self, unknown: usize) -> &List<usize> {
+        &self.zero
+    }
+
+    fn eval<C: Ledger>(
+        &self,
+        alloc: Global,
+        key: usize,
+        values: &Values<(bool, bool)>,
+        steps: &mut Steps<C>,
+    ) -> Result<(bool, bool), AllocError> {
+        steps.tick();
+        let held = values.get(0).unwrap();
+        Ok((true, held.0))
+    }
+
+    ghost laws = { λ _. climb_lawful };
+
+    ghost over = { λ _ u _. climb_over u };
+}
+
+/// What a climb in three visits shows.
+#[derive(Drop)]
+struct Climbed {
+    after_two: Result<(), SettleRefusal>,
+    waiting: usize,
+    last: Visited,
+    idle: Visited,
+    value: Option<(bool, bool)>,
+    trace: Vec<(usize, usize)>,
+}
+
+/// Settles with a limit of two visits, and then makes two more.
+fn made_climb<C: Ledger>(alloc: Global, blank: Blank) -> Result<Climbed, AllocError>
+    requires name { blank.name ≡ C.name }
+    requires parts { blank.parts ≡ C.parts }
+    requires some { 0 < C.parts }
+{
+    let mut steps = Steps::<C>::new(blank);
+    let zero = listed(alloc, &[0])?;
+    let mut engine = Engine::new(alloc, Climb { pairs: Pairs, zero }, LastPick)?;
+    let after_two = engine.settle(Some(2), &mut steps);
+    let waiting = engine.waiting();
+    let last = engine.visit(&mut steps)?;
+    let idle = engine.visit(&mut steps)?;
+    Ok(Climbed {
+        after_two,
+        waiting,
+        last,
+        idle,
+        value: engine.value(engine.system().target(0)).copied(),
+        trace: steps_of(alloc, engine.trace())?,
+    })
+}
+
+/// The bound is 1 key and 2 rises that wake 1 reader: three visits settle it, and two don't.
+#[test]
+fn a_bound_is_met_exactly(rt: HostRuntime) -> Result<(), Fail> {
+    let climbed = made_climb::<Brand>(rt.alloc(), Blank::new(1))?;
+    assert_eq!(rt; climbed.after_two, Err(SettleRefusal::Spent { visits: 2 }));
+    assert_eq!(rt; climbed.waiting, 1);
+    assert_eq!(rt; climbed.last, Visited::Held);
+    assert_eq!(rt; climbed.idle, Visited::Idle);
+    assert_eq!(rt; climbed.value, Some((true, true)));
+    assert_eq!(rt; climbed.trace.as_slice(), [(0, 0), (0, 0)].as_slice());
+    Ok(())
+}
