@@ -16,7 +16,7 @@ use Rattle.aterm_text.specs.Bytes.{class_of, is_low_octal, is_octal, octal_value
 use Rattle.aterm_text.specs.Faults.{Begins, IsDue}
 use Rattle.aterm_text.specs.Grammar.{term, IsSymbol, IsEscape, short, octal, IsQuoted, number_of, signed, IsI64, IsTerm, IsBody}
 use Rattle.aterm_text.specs.Numbers.{integer_of}
-use Rattle.aterm_text.proofs.Runs.{IntegerIs, integer_is, low_is_octal}
+use Rattle.aterm_text.proofs.Runs.{IntegerIs, integer_is, low_high, low_is_octal, octal_high}
 use Rattle.aterm_text.proofs.Spelled.{Behind, Quoting, Escaping, NumberAt, Spelled, Means, behind_as, behind_at, head_due}
 use Rattle.aterm_text.proofs.Lives.{with_byte, begins_less, term_lives, body_lives, due_lives, minus_lives, quoting_lives}
 use Rattle.aterm_text.proofs.Sound.{symbol_as_body, quoted_as_body, integer_body, quoting_more, plain_byte}
@@ -52,12 +52,6 @@ escape_lives stack e tail more value p h is u =
     begins_less p more (quoting_lives stack (e.chars ++ value ∷ []) (p ++ more)
     (subst (λ (xs : List ℕ). Quoting stack (e.chars ++ value ∷ []) xs) (sym (ap (λ (xs : List ℕ). xs ++ more) h.whole ∙ append_assoc h.outside (92 ∷ tail) more))
     (quoting_more stack e.chars h.outside (92 ∷ (tail ++ more)) value h.quoting (inr is))) u)
-
-low_high : (c : ℕ) → is_low_octal c ≡ true → c ≤ 49
-low_high c h = grind (arith, nat_tests)
-
-octal_high : (c : ℕ) → is_octal c ≡ true → c ≤ 55
-octal_high c h = grind (arith, nat_tests)
 
 one_escape : (a : ℕ) → is_low_octal a ≡ true → IsEscape (92 ∷ a ∷ 48 ∷ 48 ∷ []) (octal_value a 48 48)
 one_escape a h = let high : a ≤ 49 = low_high a h in octal a 48 48 (low_is_octal a h) refl refl refl (omega arith) refl

@@ -21,8 +21,8 @@ use Rattle.aterm_text.proofs.Sizes.{deepest, parts_of, size_term, depth_term, pa
 use Rattle.aterm_text.proofs.Runs.{IntegerIs, integer_is, low_is_octal, octal_long}
 use Rattle.aterm_text.proofs.Complete.{body_size}
 use Rattle.aterm_text.proofs.Spelled.{Behind, Quoting, Escaping, NumberAt, Spelled, Fits, Means, fits_as, behind_as, behind_at, head_due}
-use Rattle.aterm_text.proofs.Lives.{term_lives, due_lives, minus_lives, quoting_lives}
-use Rattle.aterm_text.proofs.Sound.{Between, as_bare, leaf_fits, symbol_as_body, quoted_as_body, number_between, number_whole, integer_body}
+use Rattle.aterm_text.proofs.Lives.{as_bare, term_lives, due_lives, minus_lives, quoting_lives}
+use Rattle.aterm_text.proofs.Sound.{Between, leaf_fits, symbol_as_body, quoted_as_body, number_between, number_whole, integer_body}
 
 -- the text ends behind p: a row stands there or before it; or p goes on
 abbrev pub Ends : TermFaultKind → List ℕ → ℕ → Type 0

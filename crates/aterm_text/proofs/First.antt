@@ -20,8 +20,8 @@ use Rattle.aterm_text.specs.Grammar.{IsEscape, short, octal, IsDigits, number_of
 use Rattle.aterm_text.specs.Machine.{State, state, Next, limited, begin_within, begin, escaped, in_one_octal, in_two_octals, after_number, after_integer, in_number, step_by, step, run, ended_number, outermost, finish, nothing, reading, ◌>>=◌}
 use Rattle.aterm_text.specs.Numbers.{more_digits, with_digit, integer_within, integer_of}
 use Rattle.aterm_text.proofs.Classes.{same_byte, class_quote, class_minus, class_exclamation, class_less}
-use Rattle.aterm_text.proofs.Runs.{run_append, run_on, CanBegin, begins, NumberIs, ReadsNumeral, reads_numeral, reads_inside, IntegerIs, integer_is, low_is_octal}
-use Rattle.aterm_text.proofs.Limits.{IsLimit, MeetsLimit, bind_is, bind_err}
+use Rattle.aterm_text.proofs.Runs.{bind_is, lt_false, run_append, run_on, CanBegin, begins, NumberIs, ReadsNumeral, reads_numeral, reads_inside, IntegerIs, integer_is, low_high, low_is_octal, octal_high}
+use Rattle.aterm_text.proofs.Limits.{IsLimit, MeetsLimit, bind_err}
 use Rattle.aterm_text.proofs.Spelled.{NumberAt, Means}
 use Rattle.aterm_text.proofs.Sound.{Stops}
 use Rattle.aterm_text.proofs.Traces.{MeansState, nothing_means, run_means, Stopped, run_stops, front_utf8, sound}
@@ -311,11 +311,11 @@ range_row bytes front rest place n (c ∷ tail) e there s large (inl h) =
 abbrev NoEscape : List ℕ → Type 0
 NoEscape tail = (escape rest : List ℕ) (value : ℕ) → 92 ∷ tail ≡ escape ++ rest → ¬ IsEscape escape value
 
-abbrev Result_end : Type 0
-Result_end = Result Term (ℕ × TermFaultKind)
+abbrev Reading : Type 0
+Reading = Result Term (ℕ × TermFaultKind)
 
 -- what is read from a state to the end of the text
-abbrev read_from : State → ℕ → List ℕ → ℕ → Result_end
+abbrev read_from : State → ℕ → List ℕ → ℕ → Reading
 read_from s at bytes end = run true s at bytes >>= λ q. finish q end
 
 read_on : (s next : State) (at c : ℕ) (tail : List ℕ) (end : ℕ) (e : ℕ × TermFaultKind) → step true s at c ≡ Ok next → read_from next (at + 1) tail end ≡ Err e → read_from s at (c ∷ tail) end ≡ Err e
@@ -338,12 +338,6 @@ first_bad stack begun e c h g = ap (escaped stack begun e c) h ∙ ap (λ (x : B
 
 first_good : (stack : List Open) (begun : ℕ) (e : Escape) (c : ℕ) → short_escape c ≡ None → is_low_octal c ≡ true → escaped stack begun e c (short_escape c) ≡ Ok (state stack begun (last.OneOctal e (c - 48)))
 first_good stack begun e c h g = ap (escaped stack begun e c) h ∙ ap (λ (x : Bool). if x then Ok (state stack begun (last.OneOctal e (c - 48))) else Err (e.start, BadEscape)) g
-
-low_high : (c : ℕ) → is_low_octal c ≡ true → c ≤ 49
-low_high c h = grind (arith, nat_tests)
-
-octal_high : (c : ℕ) → is_octal c ≡ true → c ≤ 55
-octal_high c h = grind (arith, nat_tests)
 
 whole_escape : (a b c : ℕ) → is_low_octal a ≡ true → is_octal b ≡ true → is_octal c ≡ true → IsEscape (92 ∷ a ∷ b ∷ c ∷ []) (octal_value a b c)
 whole_escape a b c h k j = let high : a ≤ 49 = low_high a h in let middle : b ≤ 55 = octal_high b k in let low : c ≤ 55 = octal_high c j in octal a b c (low_is_octal a h) k j refl (omega arith) refl
@@ -442,9 +436,6 @@ none_large true (suc m) h = go (nat_lt m (2 ^ 63)) refl h
     go true e g = cc
     go false e g = let low : 2 ^ 63 ≤ m = grind (arith, nat_tests) in omega arith
 
-lt_false : (m n : ℕ) → n ≤ m → nat_lt m n ≡ false
-lt_false m n h = grind (arith, nat_tests)
-
 greatest_none : (negative : Bool) → integer_within negative (2 ^ 64 - 1) ≡ None
 greatest_none false = refl
 greatest_none true = refl
@@ -508,7 +499,7 @@ up_to_chosen offset place k false e h = let low : place ≤ offset = grind (arit
 up_to : (offset place : ℕ) (k : TermFaultKind) → offset ≤ place → ComesFirst offset k place Unexpected
 up_to offset place k h = up_to_chosen offset place k (nat_lt offset place) refl h
 
-end_row : (bytes : List ℕ) (place : ℕ) → length bytes ≡ place → IsUtf8 bytes → ((t : Term) → ¬ IsText bytes t) → (o : Result_end) → reading bytes ≡ o → Answered bytes place Unexpected
+end_row : (bytes : List ℕ) (place : ℕ) → length bytes ≡ place → IsUtf8 bytes → ((t : Term) → ¬ IsText bytes t) → (o : Reading) → reading bytes ≡ o → Answered bytes place Unexpected
 end_row bytes place there u no_text (Ok t) h = absurd (no_text t (sound bytes t u h).is_text)
 end_row bytes place there u no_text (Err (offset, k)) h = record { offset = offset; kind = k; reads = h; first = up_to offset place k (omega (arith, there, (faulted bytes offset k h).bound)) }
 

@@ -10,6 +10,7 @@ use Rattle.aterm_text.specs.declared.refusal.TermFaultKind.{TermFaultKind}
 use Rattle.aterm_text.specs.declared.refusal.TermFaultKind.TheVariants.{Unexpected, TooDeep, TooMany}
 use Rattle.aterm_text.specs.Bytes.{class_of, begins_term, misplaced}
 use Rattle.aterm_text.specs.Machine.{State, state, Next, limited, begin_within, begin, step_by, step, run, ◌>>=◌}
+use Rattle.aterm_text.proofs.Runs.{bind_is, bound_ok}
 
 abbrev pub IsLimit : TermFaultKind → Type 0
 IsLimit TooDeep = Unit {0}
@@ -63,13 +64,6 @@ unexpected_same s at c offset h = go (step_cases s at c)
     go : SameOrLimit (step true s at c) (step false s at c) at → step false s at c ≡ Err (offset, Unexpected)
     go (inl e) = sym e ∙ h
     go (inr e) = absurd (subst IsLimit (ap (λ (x : ℕ × TermFaultKind). x.1) (same_err (at, e.0) (offset, Unexpected) (sym e.2 ∙ h))) e.1)
-
-bound_ok : (o : Next) (f : State → Next) (q : State) → (o >>= f) ≡ Ok q → (s : State) × (o ≡ Ok s) × (f s ≡ Ok q)
-bound_ok (Ok s) f q h = (s, refl, h)
-bound_ok (Err e) f q h = cc
-
-pub bind_is : (o : Next) (s : State) (f : State → Next) (p : Next) → o ≡ Ok s → f s ≡ p → (o >>= f) ≡ p
-bind_is o s f p e h = ap (λ (x : Next). x >>= f) e ∙ h
 
 pub bind_err : (o : Next) (f : State → Next) (e : ℕ × TermFaultKind) → o ≡ Err e → (o >>= f) ≡ Err e
 bind_err o f e h = ap (λ (x : Next). x >>= f) h

@@ -38,7 +38,7 @@ closed_term Tuple ts = term (kind.Tuple ts) []
 closed_term Items ts = term (kind.Items ts) []
 closed_term (Annotations k) ts = term k ts
 
-as_bare : (k : Kind) (s : List ℕ) → IsBody s k → IsTerm s (term k [])
+pub as_bare : (k : Kind) (s : List ℕ) → IsBody s k → IsTerm s (term k [])
 as_bare k s h = bare k h refl
 
 closed_behind : (opener : Opener) (ts : List Term) (below : List Open) (p : List ℕ) → Closes (record { opener = opener; items = ts }) below p → Behind (λ s. IsTerm s (closed_term opener ts)) below (p ++ closing_byte_of opener ∷ [])

@@ -180,6 +180,12 @@ octal_long a h = rw (not_octal a 34 h (omega arith), not_octal_high a 92 h (omeg
 pub low_is_octal : (a : ℕ) → is_low_octal a ≡ true → is_octal a ≡ true
 low_is_octal a h = grind (arith, nat_tests)
 
+pub low_high : (c : ℕ) → is_low_octal c ≡ true → c ≤ 49
+low_high c h = grind (arith, nat_tests)
+
+pub octal_high : (c : ℕ) → is_octal c ≡ true → c ≤ 55
+octal_high c h = grind (arith, nat_tests)
+
 pub low_octal : (a : ℕ) → is_octal a ≡ true → a ≤ 49 → is_low_octal a ≡ true
 low_octal a h g = grind (arith, nat_tests)
 
@@ -199,7 +205,11 @@ third_octal : (stack : List Open) (begun : ℕ) (e : Escape) (value c : ℕ) →
 third_octal stack begun e value c h =
     ap (λ (x : Bool). if x then Ok (state stack begun (last.Inside (e.chars ++ (value * 8 + (c - 48)) ∷ []))) else Err (e.start, BadEscape)) h
 
-bind_is : (o : Next) (s : State) (f : State → Next) (p : Next) → o ≡ Ok s → f s ≡ p → (o >>= f) ≡ p
+pub bound_ok : (o : Next) (f : State → Next) (q : State) → (o >>= f) ≡ Ok q → (s : State) × (o ≡ Ok s) × (f s ≡ Ok q)
+bound_ok (Ok s) f q h = (s, refl, h)
+bound_ok (Err e) f q h = cc
+
+pub bind_is : (o : Next) (s : State) (f : State → Next) (p : Next) → o ≡ Ok s → f s ≡ p → (o >>= f) ≡ p
 bind_is o s f p e h = ap (λ (x : Next). x >>= f) e ∙ h
 
 escape_on : (b : Bool) (stack : List Open) (begun at : ℕ) (chars : List ℕ) (value : ℕ) (bytes : List ℕ) → IsEscape bytes value
@@ -328,7 +338,7 @@ IntegerIs o n = ((o ≡ Some n) × IsI64 n) ⊎ ((o ≡ None) × ¬ IsI64 n)
 lt_true : (m n : ℕ) → m < n → nat_lt m n ≡ true
 lt_true m n h = grind (arith, nat_tests)
 
-lt_false : (m n : ℕ) → n ≤ m → nat_lt m n ≡ false
+pub lt_false : (m n : ℕ) → n ≤ m → nat_lt m n ≡ false
 lt_false m n h = grind (arith, nat_tests)
 
 chosen_true : (x : Bool) (n : ℤ) → x ≡ true → (if x then Some n else None) ≡ Some n

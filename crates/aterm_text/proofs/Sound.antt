@@ -29,10 +29,10 @@ use Rattle.aterm_text.specs.Numbers.{with_digit, integer_of}
 use Rattle.aterm_text.specs.Open.{closing_byte_of, with_item}
 use Rattle.aterm_text.proofs.Classes.{is_byte_of, same_byte, digit_low}
 use Rattle.aterm_text.proofs.Sizes.{deepest, parts_of, size_term, depth_term, parts_apply, parts_int, parts_text, deepest_more, size_more}
-use Rattle.aterm_text.proofs.Runs.{NumberIs, IntegerIs, integer_is, capped_more, low_is_octal, low_first, octal_long}
+use Rattle.aterm_text.proofs.Runs.{NumberIs, IntegerIs, integer_is, capped_more, low_high, low_is_octal, low_first, octal_long, octal_high}
 use Rattle.aterm_text.proofs.Complete.{body_size}
 use Rattle.aterm_text.proofs.Spelled.{Behind, AtHead, Quoting, Escaping, NumberAt, Spelled, last_depth, last_size, Fits, Means, fits_as, due_blank, head_due, head_blank, behind_blank, behind_as, behind_at, with_last, Closes, closed_spelled, closed_fits}
-use Rattle.aterm_text.proofs.Lives.{term_lives, body_lives, due_lives, minus_lives}
+use Rattle.aterm_text.proofs.Lives.{as_bare, term_lives, body_lives, due_lives, minus_lives}
 
 -- a row stands behind a front of the bytes of this length
 abbrev pub Between : TermFaultKind → ℕ → List ℕ → Type 0
@@ -200,9 +200,6 @@ annotations_open stack begun k c p is b fits = record {
   );
   fits = record { shallow = (omega (arith, fits.deep), omega (arith, fits.deep), fits.shallow); deep = omega (arith, fits.deep); counted = omega (arith, fits.counted); few = fits.few };
 }
-
-pub as_bare : (k : Kind) (s : List ℕ) → IsBody s k → IsTerm s (term k [])
-as_bare k s h = bare k h refl
 
 after_body_means : (class : ByteClass) (stack : List Open) (begun : ℕ) (k : Kind) (c : ℕ) (p : List ℕ) → class_of c ≡ class → Behind (λ s. IsBody s k) stack p → Fits stack begun (1 + deepest (parts_of k)) (body_size k)
     → MeansNext (after_body class stack begun (length p) k c) p c
@@ -397,12 +394,6 @@ one_octal_means stack begun e value c p h fits =
       fits = fits;
     })
     (λ no_digit. bad_escape stack e (h.0 ∷ []) c p esc (λ rest escape tail v same is. escape_second rest escape tail v h.0 c same is (octal_long h.0 (low_is_octal h.0 h.1)) no_digit))
-
-low_high : (c : ℕ) → is_low_octal c ≡ true → c ≤ 49
-low_high c h = grind (arith, nat_tests)
-
-octal_high : (c : ℕ) → is_octal c ≡ true → c ≤ 55
-octal_high c h = grind (arith, nat_tests)
 
 escape_third : (rest escape tail : List ℕ) (v a d c : ℕ) → 92 ∷ a ∷ d ∷ c ∷ rest ≡ escape ++ tail → IsEscape escape v → short_escape a ≡ None → is_octal c ≡ false → ⊥
 escape_third rest escape tail v a d c e (short x h f) long no_digit =

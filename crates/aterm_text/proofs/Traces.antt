@@ -15,7 +15,7 @@ use Rattle.aterm_text.specs.Bytes.{class_of}
 use Rattle.aterm_text.specs.Grammar.{term, IsText, TermText}
 use Rattle.aterm_text.specs.Machine.{State, state, Next, in_quotes, step_by, step, run, ended_number, ended, outermost, finish, nothing, reading, ◌>>=◌}
 use Rattle.aterm_text.specs.Numbers.{integer_of}
-use Rattle.aterm_text.proofs.Runs.{CanBegin, run_on, skip_before, skip_all, SkipsAll, body_of, whole_of, IsWhole, blank_whole}
+use Rattle.aterm_text.proofs.Runs.{bound_ok, CanBegin, run_on, skip_before, skip_all, SkipsAll, body_of, whole_of, IsWhole, blank_whole}
 use Rattle.aterm_text.proofs.Complete.{Room, Reads, reads_term}
 use Rattle.aterm_text.proofs.Spelled.{Behind, Fits, Means}
 use Rattle.aterm_text.proofs.Sound.{Stops, MeansNext, step_means}
@@ -37,10 +37,6 @@ next_means o (state stack begun l) p c e m = subst (λ (x : Next). MeansNext x p
 
 next_stops : (o : Next) (offset : ℕ) (k : TermFaultKind) (p : List ℕ) (c : ℕ) → o ≡ Err (offset, k) → MeansNext o p c → Stops k p c offset
 next_stops o offset k p c e m = subst (λ (x : Next). MeansNext x p c) e m
-
-bound_ok : (o : Next) (f : State → Next) (q : State) → (o >>= f) ≡ Ok q → (s : State) × (o ≡ Ok s) × (f s ≡ Ok q)
-bound_ok (Ok s) f q h = (s, refl, h)
-bound_ok (Err e) f q h = cc
 
 length_more : (p : List ℕ) (c at : ℕ) → length p ≡ at → length (p ++ c ∷ []) ≡ at + 1
 length_more p c at e = omega (arith, e, length-append p (c ∷ []))

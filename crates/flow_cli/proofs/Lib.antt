@@ -1,4 +1,3 @@
 pub mod FileLemmas
 pub mod GraphLemmas
 pub mod RunLemmas
-pub mod TreeLemmas

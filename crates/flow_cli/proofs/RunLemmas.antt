@@ -4,7 +4,7 @@ use Rattle.std.specs.Prelude.{◌⊎◌}
 use Rattle.std.specs.FinMap.{get}
 use Rattle.std.proofs.lemmas.Option.{same_Some}
 use Rattle.flow_term.specs.declared.term.Term.{Term}
-use Rattle.flow_cli.proofs.TreeLemmas.{text_has_no_fault}
+use Rattle.aterm_text.proofs.Reading.{one_answer}
 use Rattle.flow_syntax.specs.declared.spec.Spec.{Spec}
 use Rattle.flow_syntax.specs.FirstForm.{FirstSpec}
 use Rattle.flow_io.specs.Contents.{Contents}
@@ -55,7 +55,7 @@ refused_or_specification content line spec line_is accepted =
 
 refused_or_tree : (content : Option (List ℕ)) (line : List ℕ) (tree : Term) → IsRefusedTree content line → IsTree content tree → ⊥
 refused_or_tree content line tree line_is accepted =
-    not_both _ tree_limit _ content line accepted.bytes accepted.is accepted.small (λ cause bad. text_has_no_fault accepted.bytes tree bad.0 bad.1 accepted.form bad.2) line_is
+    not_both _ tree_limit _ content line accepted.bytes accepted.is accepted.small (λ cause bad. (one_answer accepted.bytes).not_both tree bad.0 bad.1 accepted.form bad.2) line_is
 
 graph_ends : (sc tc : Option (List ℕ)) (out other : List ℕ) (how way : End) → IsGraphOutput sc tc out how → IsGraphOutput sc tc other way → how ≡ way
 graph_ends sc tc out other how way (refused_specification line_is e) (refused_specification line_is' f) = e ∙ sym f
