@@ -1,7 +1,8 @@
-//! Nodes, edges, points and links of a control-flow graph.
+//! Nodes, edges, unknowns, points and links of a control-flow graph.
 ghost use Rattle.std.specs.Prelude.{◌≡◌, IfOk};
 
 use crate::path::Path;
+use crate::text::Text;
 use std::alloc::AllocError;
 
 /// What a node stands for at its position: where control starts there, the position itself, or where control ends there.
@@ -24,6 +25,13 @@ pub struct Node {
 pub struct Edge {
     pub from: Node,
     pub to: Node,
+}
+
+/// A property at a node. Unknowns are ordered by node, then by the bytes of the property's name.
+#[derive(Debug, PartialEq, Eq, PartialOrd, Ord, Hash, Drop)]
+pub struct Unknown {
+    pub node: Node,
+    pub property: Text,
 }
 
 /// A point of a position that control passes: into it, out of it, or a node at it.
@@ -63,6 +71,18 @@ impl Edge {
         Ok(Edge {
             from: self.from.duplicate()?,
             to: self.to.duplicate()?,
+        })
+    }
+}
+
+impl Unknown {
+    /// An equal unknown. Fails only for want of memory.
+    pub fn duplicate(&self) -> Result<Unknown, AllocError>
+        ensures { IfOk result (λ unknown. unknown ≡ self.now) }
+    {
+        Ok(Unknown {
+            node: self.node.duplicate()?,
+            property: self.property.duplicate()?,
         })
     }
 }

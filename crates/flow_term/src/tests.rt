@@ -140,3 +140,51 @@ fn a_part_is_replaced_and_handed_out(rt: HostRuntime) -> Result<(), Fail> {
     assert!(rt; replace(&mut tree, &item, plain(alloc, Kind::Int(7))).is_err());
     Ok(())
 }
+
+/// The top of a flat lattice at the key 1, and once more.
+fn entry_twice(alloc: Global) -> Result<(Boxed<Entry>, Boxed<Entry>), AllocError> {
+    let entry = Boxed::new(
+        alloc,
+        Entry {
+            key: Elem::Int(1),
+            value: Value::Top,
+        },
+    )?;
+    let again = Boxed::new(alloc, entry.get().duplicate(alloc)?)?;
+    Ok((entry, again))
+}
+
+/// The bottom of a flat lattice at the start of a tree, and once more.
+fn valued_twice(alloc: Global) -> Result<(Boxed<Valued>, Boxed<Valued>), AllocError> {
+    let node = Node {
+        path: Path::from_vec(Vec::new(alloc)),
+        kind: NodeKind::Start,
+    };
+    let property = text(alloc, "p")?;
+    let valued = Boxed::new(
+        alloc,
+        Valued {
+            unknown: Unknown { node, property },
+            value: Value::Bottom,
+        },
+    )?;
+    let again = Boxed::new(alloc, valued.get().duplicate(alloc)?)?;
+    Ok((valued, again))
+}
+
+#[test]
+fn what_holds_a_value_is_duplicated(rt: HostRuntime) -> Result<(), Fail> {
+    let alloc = rt.alloc();
+    let (entry, again) = entry_twice(alloc)?;
+    assert!(rt; again.get().key == entry.get().key);
+    assert!(rt; matches!(&again.get().value, Value::Top));
+    let (valued, again) = valued_twice(alloc)?;
+    assert!(rt; again.get().unknown == valued.get().unknown);
+    assert!(rt; matches!(&again.get().value, Value::Bottom));
+    let bound = Bound {
+        name: text(alloc, "x")?,
+        value: Elem::Int(3),
+    };
+    assert!(rt; bound.duplicate(alloc)? == bound);
+    Ok(())
+}

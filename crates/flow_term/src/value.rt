@@ -1,0 +1,147 @@
+//! Values of properties, and what patterns bind.
+ghost use Rattle.std.specs.Prelude.{◌≡◌, IfOk};
+
+use crate::boxed::Boxed;
+use crate::elem::Elem;
+use crate::element::Element;
+use crate::graph::Unknown;
+use crate::list::List;
+use crate::text::Text;
+use std::alloc::{AllocError, Global};
+
+/// A value of a lattice. Which values a lattice has is said by its type.
+#[cycle(value)]
+#[derive(Drop)]
+pub enum Value {
+    /// The bottom of a lattice of sets that are joined by intersection.
+    Unreached,
+    /// A set, its elements rising.
+    Set(List<Elem>),
+    /// The bottom of a flat lattice.
+    Bottom,
+    /// The top of a flat lattice.
+    Top,
+    /// An element in a flat lattice.
+    Flat(Elem),
+    /// A map, its keys rising.
+    Map(List<Entry>),
+    Pair(Boxed<Value>, Boxed<Value>),
+    /// An element of a declared lattice.
+    Item(Text),
+}
+
+/// A key of a map and its value.
+#[cycle(value)]
+#[derive(Drop)]
+pub struct Entry {
+    pub key: Elem,
+    pub value: Value,
+}
+
+/// The value of a property at a node.
+#[derive(Drop)]
+pub struct Valued {
+    pub unknown: Unknown,
+    pub value: Value,
+}
+
+/// What a variable of a pattern stands for.
+#[derive(Debug, PartialEq, Eq, Drop)]
+pub struct Bound {
+    pub name: Text,
+    pub value: Elem,
+}
+
+/// What the variables of a pattern stand for, in the order of the text.
+pub type Bindings = List<Bound>;
+
+impl Value {
+    /// An equal value. Fails only for want of memory.
+    pub fn duplicate(&self, alloc: Global) -> Result<Value, AllocError>
+        ensures { IfOk result (λ value. value ≡ self.now) }
+    {
+        copy_value(alloc, self)
+    }
+}
+
+impl Entry {
+    /// An equal entry. Fails only for want of memory.
+    pub fn duplicate(&self, alloc: Global) -> Result<Entry, AllocError>
+        ensures { IfOk result (λ entry. entry ≡ self.now) }
+    {
+        copy_entry(alloc, self)
+    }
+}
+
+impl Valued {
+    /// An equal one. Fails only for want of memory.
+    pub fn duplicate(&self, alloc: Global) -> Result<Valued, AllocError>
+        ensures { IfOk result (λ valued. valued ≡ self.now) }
+    {
+        Ok(Valued {
+            unknown: self.unknown.duplicate()?,
+            value: copy_value(alloc, &self.value)?,
+        })
+    }
+}
+
+impl Bound {
+    /// An equal one. Fails only for want of memory.
+    pub fn duplicate(&self, alloc: Global) -> Result<Bound, AllocError>
+        ensures { IfOk result (λ bound. bound ≡ self.now) }
+    {
+        Ok(Bound {
+            name: self.name.duplicate()?,
+            value: self.value.copy(alloc)?,
+        })
+    }
+}
+
+#[cycle(copy_value)]
+fn copy_value(alloc: Global, value: &Value) -> Result<Value, AllocError>
+    ensures { IfOk result (λ copy. copy ≡ value.now) }
+{
+    match value {
+        Value::Unreached => Ok(Value::Unreached),
+        Value::Set(elems) => Ok(Value::Set(copy_elems(alloc, elems.as_slice())?)),
+        Value::Bottom => Ok(Value::Bottom),
+        Value::Top => Ok(Value::Top),
+        Value::Flat(elem) => Ok(Value::Flat(elem.copy(alloc)?)),
+        Value::Map(entries) => Ok(Value::Map(copy_entries(alloc, entries.as_slice())?)),
+        Value::Pair(left, right) => Ok(Value::Pair(
+            Boxed::new(alloc, copy_value(alloc, left.get())?)?,
+            Boxed::new(alloc, copy_value(alloc, right.get())?)?,
+        )),
+        Value::Item(text) => Ok(Value::Item(text.duplicate()?)),
+    }
+}
+
+#[cycle(copy_value)]
+fn copy_entry(alloc: Global, entry: &Entry) -> Result<Entry, AllocError>
+    ensures { IfOk result (λ copy. copy ≡ entry.now) }
+{
+    let key = entry.key.copy(alloc)?;
+    let value = copy_value(alloc, &entry.value)?;
+    Ok(Entry { key, value })
+}
+
+#[cycle(copy_value)]
+fn copy_entries(alloc: Global, entries: &[Entry]) -> Result<List<Entry>, AllocError>
+    ensures { IfOk result (λ copy. copy ≡ entries.now) }
+{
+    let mut copy = List::new(alloc);
+    for entry in entries {
+        copy.push(copy_entry(alloc, entry)?)?;
+    }
+    Ok(copy)
+}
+
+fn copy_elems(alloc: Global, elems: &[Elem]) -> Result<List<Elem>, AllocError>
+    ensures { IfOk result (λ copy. copy ≡ elems.now) }
+{
+    let mut copy = List::new(alloc);
+    for elem in elems {
+        copy.push(elem.copy(alloc)?)?;
+    }
+    Ok(copy)
+}
