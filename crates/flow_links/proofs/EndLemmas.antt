@@ -19,8 +19,6 @@ use Rattle.flow_syntax.specs.declared.rule.ItemKind.{ItemKind}
 use Rattle.flow_syntax.specs.declared.rule.ItemKind.TheVariants as item
 use Rattle.flow_syntax.specs.Matching.{matches}
 use Rattle.flow_syntax.specs.Control.{rule_for, entered_at, argument, HasLongChains, HasBoundItems, IsUnboundItem}
-use Rattle.flow_syntax.specs.Faults.{IsFaultless, unbound}
-use Rattle.flow_syntax.specs.declared.fault.SpecFaultKind.TheVariants as kinds
 use Rattle.flow_syntax.specs.Graph.{IsLink, IsNode, IsInner, LinksAt, in_chain, through_empty, into_first, to_next, from_last, through_other, leaving, arriving, point_of, point_of_kind, below}
 use Rattle.flow_syntax.proofs.Matches.{found_among}
 use Rattle.flow_links.specs.Below.{link}
@@ -70,10 +68,6 @@ leaving_node rule path item.Start n h = h
 leaving_node rule path item.End n h = h
 leaving_node rule path item.This n h = h
 leaving_node rule path (item.Single x) n h = h
-
--- each argument that an item names is a variable of the head of its rule, since otherwise it is a fault
-bound : (spec : Spec) → IsFaultless spec → HasBoundItems spec
-bound spec faultless rule of_spec chain of_rule it of_chain h = faultless it.place kinds.Unbound (unbound rule chain it of_spec of_rule of_chain h refl)
 
 mapped_some : (f : List ℕ → Point) (path : List ℕ) (o : Option ℕ) → ¬ (o ≡ None) → (b : Point) × (option_map f (option_map (below path) o) ≡ Some b)
 mapped_some f path None h = absurd (h refl)
@@ -146,7 +140,7 @@ module _ (spec : Spec) (tree : Term) (links : List Link) (exact : (x : Link) →
         | inr e ↦ named_to made.path made.t h.x.from h.x.to made.position made.made e
       ]
 
-  module _ (long : HasLongChains spec) (faultless : IsFaultless spec) where
+  module _ (long : HasLongChains spec) (bound : HasBoundItems spec) where
     end_of_node : IsNode spec tree n → IsEnd links n
     end_of_node h = by (eq-or-lt_of_le (let f : k < length h.chain.items = h.has_item.1 in omega arith))
       where
@@ -172,7 +166,7 @@ module _ (spec : Spec) (tree : Term) (links : List Link) (exact : (x : Link) →
         before j e =
             let within : j < length h.chain.items = (let f : h.has_item.0 < length h.chain.items = h.has_item.1 in omega arith) in
             let left : Item = get_or h.chain.items j h.it in
-            let from : (a : Point) × (leaving h.rule h.path left.kind ≡ Some a) = leaves h.rule h.path left.kind (bound spec faultless h.rule among h.chain h.has_chain left (Contains-get_or h.chain.items j h.it within)) in
+            let from : (a : Point) × (leaving h.rule h.path left.kind ≡ Some a) = leaves h.rule h.path left.kind (bound h.rule among h.chain h.has_chain left (Contains-get_or h.chain.items j h.it within)) in
             record {
               x = link from.0 (point_of n);
               among = made left h.it j from.0 (point_of n) (slice_get-get_or h.chain.items j h.it within) (ap (slice_get h.chain.items) e ∙ here) from.1 (leaving_node h.rule h.path h.it.kind n h.named);
@@ -182,7 +176,7 @@ module _ (spec : Spec) (tree : Term) (links : List Link) (exact : (x : Link) →
         after : h.has_item.0 + 1 < length h.chain.items → IsEnd links n
         after within =
             let right : Item = get_or h.chain.items (h.has_item.0 + 1) h.it in
-            let to : (b : Point) × (arriving h.rule h.path right.kind ≡ Some b) = arrives h.rule h.path right.kind (bound spec faultless h.rule among h.chain h.has_chain right (Contains-get_or h.chain.items (h.has_item.0 + 1) h.it within)) in
+            let to : (b : Point) × (arriving h.rule h.path right.kind ≡ Some b) = arrives h.rule h.path right.kind (bound h.rule among h.chain h.has_chain right (Contains-get_or h.chain.items (h.has_item.0 + 1) h.it within)) in
             record {
               x = link (point_of n) to.0;
               among = made h.it right h.has_item.0 (point_of n) to.0 here (slice_get-get_or h.chain.items (h.has_item.0 + 1) h.it within) h.named to.1;

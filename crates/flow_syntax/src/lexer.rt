@@ -4,6 +4,7 @@ ghost use Rattle.std.specs.Str.Parse.{IsNumeral};
 ghost use Rattle.flow_syntax.specs.declared.lexer.refusal.LexFaultKind.{LexFaultKind as TheFaultKind};
 ghost use Rattle.flow_syntax.specs.declared.token.Token.{Token as TheToken};
 ghost use Rattle.flow_syntax.specs.Lexing.{number_of, name_kind, IsStep};
+ghost use Rattle.flow_syntax.specs.Accepted.{HasIdentifierTokens};
 ghost use Rattle.flow_syntax.specs.Tokens.{tokens_at, TokensFrom, TokenText, HasRisingPlaces, EndsAt};
 ghost use Rattle.flow_syntax.specs.TokenFaults.{FaultFrom, LexFaulty, IfFault, IsLexedAs, IsFaultedAs};
 
@@ -121,6 +122,7 @@ pub fn lex(alloc: Global, bytes: &[u8]) -> Result<List<Token>, LexRefusal>
     ensures first { (offset : ℕ) (kind : TheFaultKind) → LexFaulty bytes.now offset kind → IsFaultedAs result offset kind }
     ensures rising { IfOk result HasRisingPlaces }
     ensures last { IfOk result (EndsAt (length bytes.now)) }
+    ensures identifiers { IfOk result HasIdentifierTokens }
 {
     if let Err(error) = str::from_utf8(bytes) {
         return Err(LexRefusal::at(error.valid_up_to() as u64, LexFaultKind::NotUtf8));

@@ -1,18 +1,13 @@
 //! Specifications: their tokens and their syntax tree, and what their control rules mean for a tree.
 #![tactic(auto)]
 
-mod cursor;
 mod edit;
 mod expr;
 mod fault;
-mod faults;
 mod lexer;
 mod message;
-mod parser;
 mod pattern;
 mod property;
-mod reader;
-mod refusal;
 mod rule;
 mod signature;
 mod spec;
@@ -28,8 +23,6 @@ pub use lexer::{LexFaultKind, LexRefusal, lex};
 pub use message::{Level, Message, Part};
 pub use pattern::{Pattern, PatternKind};
 pub use property::{Direction, Mode, PropDecl, PropRule, Trigger};
-pub use reader::read_first;
-pub use refusal::FirstRefusal;
 pub use rule::{Chain, FlowRule, Item, ItemKind};
 pub use signature::{Constructor, Signature, TreeSort};
 pub use spec::{Named, Spec, TypedSpec};

@@ -1,7 +1,12 @@
-ghost use Rattle.std.specs.Prelude.{◌≡◌};
-ghost use Rattle.flow_syntax.specs.Accepted.{HasAppliedHeads};
+ghost use Rattle.std.specs.Prelude.{◌≡◌, map};
+ghost use Rattle.flow_syntax.specs.Accepted.{HasAppliedHeads, HasDistinctExpressions, HasEvenMaps, HasIdentifiers, HasSmallFunctions};
 ghost use Rattle.flow_syntax.specs.Control.{HasLongChains};
-ghost use Rattle.flow_syntax.specs.Faults.{IsFaultless};
+ghost use Rattle.flow_syntax.specs.DeclFaults.{directions_of};
+ghost use Rattle.flow_syntax.specs.Expressions.{expressions_of};
+ghost use Rattle.flow_syntax.specs.ExprTypes.{AreTypes};
+ghost use Rattle.flow_syntax.specs.Props.{EachOnce-prop, HasEvenMaps-prop};
+ghost use Rattle.flow_syntax.specs.Faults.{HasNoFault};
+ghost use Rattle.flow_syntax.specs.Types.{typing_of};
 
 use crate::message::Message;
 use crate::property::{Direction, PropDecl, PropRule};
@@ -10,7 +15,6 @@ use crate::signature::Signature;
 use crate::tables::{EnumDecl, FunctionDecl, TableDecl};
 use crate::types::ExprType;
 use flow_term::{List, Text};
-use std::alloc::Global;
 
 /// A name, with the offset of its first byte.
 #[derive(Debug, Drop)]
@@ -33,36 +37,21 @@ pub struct Spec {
     pub messages: List<Message>,
 }
 
-impl Spec {
-    ghost use Rattle.flow_syntax.specs.Grammar.{control_spec};
-
-    /// The specification with these control rules alone.
-    pub(crate) fn of_control(alloc: Global, name: Named, control: List<FlowRule>) -> Spec
-        ensures { result ≡ control_spec name control }
-    {
-        Spec {
-            name,
-            signature: None,
-            enums: List::new(alloc),
-            lattices: List::new(alloc),
-            functions: List::new(alloc),
-            control,
-            properties: List::new(alloc),
-            rules: List::new(alloc),
-            messages: List::new(alloc),
-        }
-    }
-}
-
-/// A specification without a fault.
+/// A specification without a fault, with what is told of it.
 #[derive(Drop)]
 pub struct TypedSpec {
     pub spec: Spec,
     /// The direction of each property, in the order of their declarations.
     pub directions: List<Direction>,
-    /// The type of each expression, an outer one before its parts, the rules' before the messages'.
+    /// The type of each expression, an outer one before its parts: those of the rules' bodies, then those of the messages' conditions.
     pub types: List<ExprType>,
-    pub ghost faultless: { IsFaultless spec },
+    pub ghost faultless: { HasNoFault spec },
     pub ghost applied_heads: { HasAppliedHeads spec },
     pub ghost long_chains: { HasLongChains spec },
+    pub ghost small_functions: { HasSmallFunctions spec },
+    pub ghost even_maps: { HasEvenMaps spec } by { HasEvenMaps-prop spec },
+    pub ghost distinct: { HasDistinctExpressions spec } by { EachOnce-prop (expressions_of spec) },
+    pub ghost identifiers: { ∥ HasIdentifiers spec ∥₁ },
+    pub ghost directed: { directions ≡ directions_of spec },
+    pub ghost typed: { ∥ AreTypes spec (map typing_of types) ∥₁ },
 }

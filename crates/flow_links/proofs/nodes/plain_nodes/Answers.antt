@@ -7,6 +7,7 @@ use Rattle.flow_term.specs.contracts.graph.NodeOrd.TheImpl as derived
 use Rattle.flow_term.specs.GraphLaws.{nodes_ordered}
 use Rattle.flow_term.specs.Orders.{node_cmp}
 use Rattle.flow_syntax.specs.Graph.{IsLink, IsNode}
+use Rattle.flow_syntax.proofs.BoundItems.{bound_items}
 use Rattle.flow_links.proofs.EndLemmas.{ends_are_nodes}
 use Rattle.flow_term.proofs.Outcomes.{both_ok, if_ok, iff_then}
 use Rattle.flow_links.proofs.SetLemmas.{Gains-all, sorted_alike}
@@ -19,7 +20,7 @@ returns-clause-exactly c =
     if_ok c.in_order.result c.in_order.ensures.same (λ (list : List Node) same (node : Node).
     subst (λ (xs : List Node). Contains xs node ↔ IsNode c.args.spec.now.spec c.args.tree.now node) (sym same)
     (iff_then (Gains-all c.in_ok-nodes.ensures node)
-    (ends_are_nodes c.args.spec.now.spec c.args.tree.now c.as_slice.result.now exact node c.args.spec.now.long_chains c.args.spec.now.faultless)))
+    (ends_are_nodes c.args.spec.now.spec c.args.tree.now c.as_slice.result.now exact node c.args.spec.now.long_chains (bound_items c.args.spec.now.spec c.args.spec.now.faultless c.args.spec.now.applied_heads))))
 
 pub returns-clause-ordered : goal.returns-clause-ordered
 returns-clause-ordered c = both_ok c.in_order.result c.in_order.ensures.same c.in_order.ensures.ordered (λ (list : List Node) same up.

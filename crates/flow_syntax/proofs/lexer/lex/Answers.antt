@@ -2,6 +2,7 @@ use Rattle.std.proofs.Common.{sym, subst}
 use Rattle.flow_syntax.specs.declared.lexer.refusal.LexFaultKind.TheVariants as faults
 use Rattle.flow_syntax.specs.TokenFaults.{LexFaulty}
 use Rattle.flow_syntax.proofs.TokenTexts.{invalid, faulty_same, told_only, told_fault, told_first, told_rising, told_last}
+use Rattle.flow_syntax.proofs.IdentifierTexts.{told_identifiers}
 use Rattle.flow_syntax.proofs.lexer.lex.Goals as goal
 
 pub returns-in-Err-clause-fault : goal.returns-in-Err-clause-fault
@@ -26,3 +27,6 @@ returns-clause-rising c = told_rising c.args.bytes.now c.in_default.ensures.case
 
 pub returns-clause-last : goal.returns-clause-last
 returns-clause-last c = told_last c.args.bytes.now c.in_default.ensures.cases.1 c.read_tokens.result c.read_tokens.ensures.found
+
+pub returns-clause-identifiers : goal.returns-clause-identifiers
+returns-clause-identifiers c = told_identifiers c.args.bytes.now c.read_tokens.result c.read_tokens.ensures.found
