@@ -1,0 +1,171 @@
+-- Whether a value is one of a lattice, by the lattice's case.
+use Rattle.std.proofs.Common.{◌≡◌, ◌↔◌, ℕ, ◌+◌, ◌<◌, ◌≤◌, get_or, take, Bool, true, false, List, [], ◌∷◌, length, Some, refl, sym, ap, ◌∙◌, subst}
+use Rattle.std.specs.Prelude.{All, slice_get}
+use Rattle.std.specs.declared.cmp.Ordering.{Ordering}
+use Rattle.std.specs.declared.cmp.Ordering.TheVariants.{Less, Equal, Greater}
+use Rattle.std.specs.Ordering.{is_lt}
+use Rattle.std.specs.Map.{keys_of, values_of}
+use Rattle.std.proofs.lemmas.List.{take_all}
+use Rattle.std.proofs.lemmas.List.Elements.{All-nil, All-cons, All-head, All-tail, All-more}
+use Rattle.flow_term.specs.contracts.elem.ElemOrd.TheImpl as order
+use Rattle.flow_term.specs.ElementsLaws.{elements_ordered}
+use Rattle.lattice_sets.proofs.Merges.{empty_list}
+use Rattle.std.specs.List.Sorted.{IsStrictlySortedBy}
+use Rattle.flow_term.specs.declared.elem.Elem.{Elem}
+use Rattle.flow_term.specs.declared.value.Value.{Value, Value-F, out-Value}
+use Rattle.flow_term.specs.declared.value.Value.TheVariants as value
+use Rattle.flow_term.specs.declared.value.Entry.{Entry}
+use Rattle.flow_term.specs.Elements.{elem_cmp}
+use Rattle.flow_syntax.specs.declared.types.ElemSort.{ElemSort}
+use Rattle.lattice_sets.specs.SetLaws.{Above, above_lower, rising_nothing}
+use Rattle.lattice_sets.proofs.MapMerges.{answer_no}
+use Rattle.lattice_any.specs.declared.any.AnyL.{AnyL}
+use Rattle.lattice_any.specs.declared.any.AnyL.TheVariants as any
+use Rattle.lattice_any.specs.Elements.{elem_total}
+use Rattle.flow_syntax.specs.Types.{Sort, Lattice, may, must, flat, map_to, pair_of, sort_of}
+use Rattle.flow_syntax.specs.Lattices.{ValueLayer, IsValueOf, least_of, Valid, bottom_of, IsMay, IsMust, IsFlat, IsMapOf, IsMapTo, IsOfSort, IsPairOf, pairs_of}
+use Rattle.lattice_any.specs.Members.{IsBelowFirst}
+use Rattle.lattice_any.specs.Types.{type_of}
+use Rattle.lattice_any.proofs.AtTypes.{lattice, is_may, is_must, is_flat, is_map, is_pair}
+use Rattle.lattice_any.proofs.FlatJoins.{layer_of}
+
+-- -- rising lists
+
+above_first : (x : Elem) (xs : List Elem) → IsStrictlySortedBy elem_cmp xs → IsBelowFirst x xs → Above elem_cmp x xs
+unfolding IsStrictlySortedBy
+above_first x [] h b = tt
+above_first x (y ∷ ys) h b = (b, above_lower elem_cmp elem_total x y ys b h.0)
+
+first_above : (x : Elem) (xs : List Elem) → IsStrictlySortedBy elem_cmp (x ∷ xs) → IsBelowFirst x xs
+unfolding IsStrictlySortedBy
+first_above x [] h = tt
+first_above x (y ∷ ys) h = h.0.0
+
+pub rising_step : (x : Elem) (xs rest : List Elem) → rest ≡ x ∷ xs → IsBelowFirst x xs → IsStrictlySortedBy elem_cmp xs ↔ IsStrictlySortedBy elem_cmp rest
+unfolding IsStrictlySortedBy
+rising_step x xs rest e b =
+    (λ h. subst (IsStrictlySortedBy elem_cmp) (sym e) (above_first x xs h b, h), λ h. let whole : IsStrictlySortedBy elem_cmp (x ∷ xs) = subst (IsStrictlySortedBy elem_cmp) e h in whole.1)
+
+pub rising_fails : (x : Elem) (xs rest : List Elem) → rest ≡ x ∷ xs → (IsBelowFirst x xs → ⊥) → IsStrictlySortedBy elem_cmp rest → ⊥
+rising_fails x xs rest e not h = not (first_above x xs (subst (IsStrictlySortedBy elem_cmp) e h))
+
+-- -- one of a lattice
+
+at_lattice : (l : AnyL) (k : Lattice) (v : Value) (r : Bool) → lattice l ≡ k → (r ≡ true) ↔ IsValueOf k v → (r ≡ true) ↔ Valid (type_of l) v
+at_lattice l k v r e is = subst (λ k. (r ≡ true) ↔ IsValueOf k v) (sym e) is
+
+pub may_member : (l : AnyL) (sort : ElemSort) (v : Value) (r : Bool) → l ≡ any.May sort → (r ≡ true) ↔ IsMay (sort_of sort) (out-Value v) → (r ≡ true) ↔ Valid (type_of l) v
+may_member l sort v r e is = at_lattice l (may (sort_of sort)) v r (is_may l sort e) is
+
+pub must_member : (l : AnyL) (sort : ElemSort) (v : Value) (r : Bool) → l ≡ any.Must sort → (r ≡ true) ↔ IsMust (sort_of sort) (out-Value v) → (r ≡ true) ↔ Valid (type_of l) v
+must_member l sort v r e is = at_lattice l (must (sort_of sort)) v r (is_must l sort e) is
+
+pub flat_member : (l : AnyL) (sort : ElemSort) (v : Value) (r : Bool) → l ≡ any.Flat sort → (r ≡ true) ↔ IsFlat (sort_of sort) (out-Value v) → (r ≡ true) ↔ Valid (type_of l) v
+flat_member l sort v r e is = at_lattice l (flat (sort_of sort)) v r (is_flat l sort e) is
+
+pub map_member : (l : AnyL) (sort : ElemSort) (values : AnyL) (v : Value) (es us : List Entry) (r : Bool) → l ≡ any.Map sort values → v ≡ value.Map es → us ≡ es
+    → (r ≡ true) ↔ IsMapOf (sort_of sort) (Valid (type_of values)) (bottom_of (type_of values)) (pairs_of us) → (r ≡ true) ↔ Valid (type_of l) v
+map_member l sort values v es us r e f g is =
+    at_lattice l (map_to (sort_of sort) (lattice values)) v r (is_map l sort values e)
+    (subst (λ x. (r ≡ true) ↔ IsMapTo (sort_of sort) (Valid (type_of values)) (bottom_of (type_of values)) x) (sym (ap out-Value f ∙ value.outs-Map es))
+    (subst (λ es. (r ≡ true) ↔ IsMapOf (sort_of sort) (Valid (type_of values)) (bottom_of (type_of values)) (pairs_of es)) g is))
+
+not_map : (sort : Sort) (P : Value → Type 0) (least : Value) (x : ValueLayer) → ((es : List Entry) → x ≡ Value-F.Map es → ⊥) → IsMapTo sort P least x → ⊥
+not_map sort P least (Value-F.Map es) none h = none es refl
+not_map sort P least _ none h = h
+
+pub no_map : (l : AnyL) (sort : ElemSort) (values : AnyL) (v : Value) → l ≡ any.Map sort values → ((es : List Entry) → v ≡ value.Map es → ⊥) → (false ≡ true) ↔ Valid (type_of l) v
+no_map l sort values v e none =
+    at_lattice l (map_to (sort_of sort) (lattice values)) v false (is_map l sort values e)
+    (answer_no (λ h. h, λ h. h) (not_map (sort_of sort) (Valid (type_of values)) (bottom_of (type_of values)) (out-Value v) (λ es f. none es (layer_of v (Value-F.Map es) f ∙ value.rolls-Map es))))
+
+pub pair_member : (l left right : AnyL) (v a b : Value) → l ≡ any.Pair left right → v ≡ value.Pair a b → (Valid (type_of left) a × Valid (type_of right) b) ↔ Valid (type_of l) v
+pair_member l left right v a b e f =
+    subst (λ k. (Valid (type_of left) a × Valid (type_of right) b) ↔ IsValueOf k v) (sym (is_pair l left right e))
+    (subst (λ x. (Valid (type_of left) a × Valid (type_of right) b) ↔ IsPairOf (Valid (type_of left)) (Valid (type_of right)) x) (sym (ap out-Value f ∙ value.outs-Pair a b)) (λ h. h, λ h. h))
+
+not_pair : (P Q : Value → Type 0) (x : ValueLayer) → ((a b : Value) → x ≡ Value-F.Pair a b → ⊥) → IsPairOf P Q x → ⊥
+not_pair P Q (Value-F.Pair a b) none h = none a b refl
+not_pair P Q _ none h = h
+
+pub no_pair : (l left right : AnyL) (v : Value) → l ≡ any.Pair left right → ((a b : Value) → v ≡ value.Pair a b → ⊥) → (false ≡ true) ↔ Valid (type_of l) v
+no_pair l left right v e none =
+    at_lattice l (pair_of (lattice left) (lattice right)) v false (is_pair l left right e)
+    (answer_no (λ h. h, λ h. h) (not_pair (Valid (type_of left)) (Valid (type_of right)) (out-Value v) (λ a b f. none a b (layer_of v (Value-F.Pair a b) f ∙ value.rolls-Pair a b))))
+
+-- -- the least of a lattice
+
+pub least_at : (l : AnyL) (k : Lattice) (v : Value) (r : Bool) → lattice l ≡ k → (r ≡ true) ↔ (v ≡ least_of k) → (r ≡ true) ↔ (v ≡ bottom_of (type_of l))
+least_at l k v r e is = subst (λ k. (r ≡ true) ↔ (v ≡ least_of k)) (sym e) is
+
+same_parts : (a b c d : Value) → value.Pair a b ≡ value.Pair c d → (a ≡ c) × (b ≡ d)
+same_parts a b c d e =
+    let layers : Value-F.Pair a b ≡ Value-F.Pair c d = sym (value.outs-Pair a b) ∙ ap out-Value e ∙ value.outs-Pair c d in
+    (cc, cc)
+
+pub pair_least : (l left right : AnyL) (v a b : Value) → l ≡ any.Pair left right → v ≡ value.Pair a b → ((a ≡ bottom_of (type_of left)) × (b ≡ bottom_of (type_of right))) ↔ (v ≡ bottom_of (type_of l))
+pair_least l left right v a b e f =
+    let bottom : bottom_of (type_of l) ≡ value.Pair (bottom_of (type_of left)) (bottom_of (type_of right)) = ap least_of (is_pair l left right e) in
+    (λ h. f ∙ (λ i. value.Pair (h.0 i) (h.1 i)) ∙ sym bottom, λ j. same_parts a b (bottom_of (type_of left)) (bottom_of (type_of right)) (sym f ∙ j ∙ bottom))
+
+pub no_least : (l left right : AnyL) (v : Value) → l ≡ any.Pair left right → ((a b : Value) → v ≡ value.Pair a b → ⊥) → (false ≡ true) ↔ (v ≡ bottom_of (type_of l))
+no_least l left right v e none =
+    answer_no (λ h. h, λ h. h) (λ j. none (bottom_of (type_of left)) (bottom_of (type_of right)) (j ∙ ap least_of (is_pair l left right e)))
+
+-- -- first elements
+
+lt_is : (o : Ordering) → (is_lt o ≡ true) ↔ (o ≡ Less)
+lt_is Less = (λ h. refl, λ h. refl)
+lt_is Equal = (λ h. cc, λ h. cc)
+lt_is Greater = (λ h. cc, λ h. cc)
+
+pub below_head : (x y : Elem) (xs : List Elem) (o : Ordering) (r : Bool) → Some y ≡ slice_get xs 0 → o ≡ order.ghosts.cmp x y → r ≡ is_lt o → (r ≡ true) ↔ IsBelowFirst x xs
+below_head x y [] o r e f g = absurd cc
+below_head x y (z ∷ zs) o r e f g =
+    let same : y ≡ z = cc in
+    let is : o ≡ elem_cmp x z = f ∙ elements_ordered x y ∙ ap (elem_cmp x) same in
+    (λ h. sym is ∙ (lt_is o).0 (sym g ∙ h), λ h. g ∙ (lt_is o).1 (is ∙ h))
+
+head_key : (e : Entry) (es : List Entry) → Some e ≡ slice_get es 0 → Some e.key ≡ slice_get (keys_of (pairs_of es)) 0
+head_key e [] h = absurd cc
+head_key e (d ∷ ds) h = let same : e ≡ d = cc in ap (λ x. Some x.key) same
+
+pub below_head_key : (x : Elem) (e : Entry) (es : List Entry) (o : Ordering) (r : Bool) → Some e ≡ slice_get es 0 → o ≡ order.ghosts.cmp x e.key → r ≡ is_lt o → (r ≡ true) ↔ IsBelowFirst x (keys_of (pairs_of es))
+below_head_key x e es o r h f g = below_head x e.key (keys_of (pairs_of es)) o r (head_key e es h) f g
+
+pub rising_empty : (xs : List Elem) → length xs ≡ 0 → IsStrictlySortedBy elem_cmp xs
+rising_empty xs h = subst (IsStrictlySortedBy elem_cmp) (sym (empty_list xs h)) (rising_nothing elem_cmp elem_total)
+
+-- -- keys and values of entries
+
+keys_from : (P : Elem → Type 0) (es : List Entry) → All (λ e. P e.key) es → All P (keys_of (pairs_of es))
+keys_from P [] h = All-nil P
+keys_from P (e ∷ es) h = All-cons P e.key (keys_of (pairs_of es)) (All-head (λ e. P e.key) e es h) (keys_from P es (All-tail (λ e. P e.key) e es h))
+
+to_keys : (P : Elem → Type 0) (es : List Entry) → All P (keys_of (pairs_of es)) → All (λ e. P e.key) es
+to_keys P [] h = All-nil (λ e. P e.key)
+to_keys P (e ∷ es) h = All-cons (λ e. P e.key) e es (All-head P e.key (keys_of (pairs_of es)) h) (to_keys P es (All-tail P e.key (keys_of (pairs_of es)) h))
+
+pub keys_answer : (P : Elem → Type 0) (es : List Entry) (r : Bool) → (r ≡ true) ↔ All (λ e. P e.key) es → (r ≡ true) ↔ All P (keys_of (pairs_of es))
+keys_answer P es r is = (λ h. keys_from P es (is.0 h), λ a. is.1 (to_keys P es a))
+
+pub values_from : (P : Value → Type 0) (es : List Entry) → All (λ e. P e.value) es → All P (values_of (pairs_of es))
+values_from P [] h = All-nil P
+values_from P (e ∷ es) h = All-cons P e.value (values_of (pairs_of es)) (All-head (λ e. P e.value) e es h) (values_from P es (All-tail (λ e. P e.value) e es h))
+
+pub to_values : (P : Value → Type 0) (es : List Entry) → All P (values_of (pairs_of es)) → All (λ e. P e.value) es
+to_values P [] h = All-nil (λ e. P e.value)
+to_values P (e ∷ es) h = All-cons (λ e. P e.value) e es (All-head P e.value (values_of (pairs_of es)) h) (to_values P es (All-tail P e.value (values_of (pairs_of es)) h))
+
+pub map_answer : (sort : Sort) (P : Value → Type 0) (least : Value) (es : List Entry) (r : Bool) → IsStrictlySortedBy elem_cmp (keys_of (pairs_of es)) → All (IsOfSort sort) (keys_of (pairs_of es))
+    → (r ≡ true) ↔ All (λ e. P e.value × (e.value ≡ least → ⊥)) es → (r ≡ true) ↔ IsMapOf sort P least (pairs_of es)
+map_answer sort P least es r rising sorts is = (
+  λ h. record { rising = rising; sorts = sorts; kept = values_from (λ v. P v × (v ≡ least → ⊥)) es (is.0 h) },
+  λ m. is.1 (to_values (λ v. P v × (v ≡ least → ⊥)) es m.kept),
+)
+
+pub one_more : {X : Type 0} (P : X → Type 0) (xs : List X) (i : ℕ) (x : X) → i < length xs → x ≡ get_or xs i x → All P (take i xs) → P x → All P (take (i + 1) xs)
+one_more P xs i x range is all p = All-more P xs i x range all (subst P is p)
+
+pub all_taken : {X : Type 0} (P : X → Type 0) (xs : List X) (i : ℕ) → length xs ≤ i → All P (take i xs) → All P xs
+all_taken P xs i range all = subst (All P) (take_all i xs range) all

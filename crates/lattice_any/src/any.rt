@@ -1,0 +1,94 @@
+//! The lattice of a type.
+ghost use Rattle.std.specs.Prelude.{◌≡◌, ◌↔◌, IsTrue, IfOk};
+ghost use Rattle.flow_syntax.specs.Lattices.{Valid};
+ghost use Rattle.lattice_any.specs.Types.{AreIn, type_of};
+
+use crate::copy::{build_lattice, copy_lattice};
+use crate::join::{join_values, least_value};
+use crate::member::is_value;
+use crate::order::is_below;
+use crate::tables::Tables;
+use flow_syntax::{ElemSort, LatticeType};
+use flow_term::{Boxed, Value};
+use lattice_base::Lattice;
+use std::alloc::{AllocError, Global};
+
+/// The lattice of a type of a specification. Its values are those of the type: sets rise strictly, a map's keys rise
+/// strictly and no key has the bottom of the map's inner lattice, and every element is of its sort.
+#[derive(Drop)]
+pub enum AnyL {
+    /// Sets of elements of a sort, ordered by inclusion and joined by union.
+    May(ElemSort),
+    /// Sets of elements of a sort, ordered by inclusion turned round and joined by intersection; below all of them
+    /// `Unreached`.
+    Must(ElemSort),
+    /// Elements of a sort side by side, between `Bottom` and `Top`.
+    Flat(ElemSort),
+    /// Maps from elements of a sort to the values of a lattice, key by key. An absent key stands for bottom.
+    Map(ElemSort, Boxed<AnyL>),
+    /// Pairs of values of two lattices, part by part.
+    Pair(Boxed<AnyL>, Boxed<AnyL>),
+}
+
+impl AnyL {
+    /// The lattice of the type. Fails only for want of memory.
+    pub fn build(alloc: Global, tables: &Tables, of: &LatticeType) -> Result<AnyL, AllocError>
+        requires { AreIn of.now tables.now }
+        ensures { IfOk result (λ lattice. type_of lattice ≡ of.now) }
+    {
+        build_lattice(alloc, of)
+    }
+
+    /// An equal lattice. Fails only for want of memory.
+    pub fn duplicate(&self, alloc: Global) -> Result<AnyL, AllocError>
+        ensures { IfOk result (λ lattice. lattice ≡ self.now) }
+    {
+        copy_lattice(alloc, self)
+    }
+
+    /// Whether the value is one of the lattice. Takes no memory.
+    pub fn contains(&self, value: &Value) -> bool
+        ensures { IsTrue result ↔ Valid (type_of self.now) value.now }
+    {
+        is_value(self, value)
+    }
+}
+
+impl Lattice for AnyL {
+    ghost use Rattle.flow_syntax.specs.Lattices.{Below, bottom_of, join_of};
+    ghost use Rattle.lattice_any.specs.TypeLaws.{any_laws, any_order};
+
+    type V = Value;
+
+    ghost valid = { λ l v. Valid (type_of l) v };
+
+    ghost least = { λ l. bottom_of (type_of l) };
+
+    ghost joined = { λ l a b. join_of (type_of l) a b };
+
+    ghost below = { λ l a b. Below (type_of l) a b };
+
+    fn bottom(&self, alloc: Global) -> Result<Value, AllocError> {
+        least_value(self, alloc)
+    }
+
+    fn join(&self, alloc: Global, a: &Value, b: &Value) -> Result<Value, AllocError> {
+        join_values(self, alloc, a, b)
+    }
+
+    fn leq(&self, a: &Value, b: &Value) -> bool {
+        is_below(self, a, b)
+    }
+
+    fn equal(&self, a: &Value, b: &Value) -> bool {
+        is_below(self, a, b) && is_below(self, b, a)
+    }
+
+    fn copy(&self, alloc: Global, a: &Value) -> Result<Value, AllocError> {
+        a.duplicate(alloc)
+    }
+
+    ghost laws = { any_laws };
+
+    ghost order = { any_order };
+}

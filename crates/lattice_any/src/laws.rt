@@ -1,0 +1,20 @@
+//! What the joins mean, element by element and key by key. Each function does nothing; calling it gives its law to the
+//! caller's proof.
+ghost use Rattle.flow_term.specs.Elements.{elem_cmp};
+ghost use Rattle.lattice_sets.specs.Maps.{IsPointwise};
+ghost use Rattle.flow_syntax.specs.Lattices.{Valid, bottom_of, intersection_of, join_of, map_join, union_of};
+ghost use Rattle.lattice_any.specs.Joins.{GivesIntersections, GivesUnions};
+ghost use Rattle.lattice_any.specs.Types.{type_of};
+
+use crate::any::AnyL;
+
+/// The join of two may sets has exactly the elements of either, that of two must sets exactly the elements of both.
+pub fn set_joins_are_unions_and_intersections()
+    ensures may { GivesUnions union_of }
+    ensures must { GivesIntersections intersection_of }
+{}
+
+/// The value of a join of two maps at a key is the join of their values there, where an absent key stands for bottom.
+pub fn map_joins_are_pointwise(_values: &AnyL)
+    ensures { IsPointwise elem_cmp (Valid (type_of _values.now)) (bottom_of (type_of _values.now)) (join_of (type_of _values.now)) (map_join (join_of (type_of _values.now))) }
+{}

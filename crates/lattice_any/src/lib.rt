@@ -1,0 +1,19 @@
+//! The types of a specification as lattices, and the texts of their values.
+#![tactic(auto)]
+
+mod any;
+mod copy;
+mod join;
+mod laws;
+mod member;
+mod order;
+mod parts;
+mod tables;
+
+pub use any::AnyL;
+pub use laws::{map_joins_are_pointwise, set_joins_are_unions_and_intersections};
+pub use tables::Tables;
+pub use value_text::{ValueRefusal, has_text, read_value, write_value};
+
+#[cfg(test)]
+mod tests;

@@ -1,0 +1,217 @@
+//! Which values a lattice has. Nothing here takes memory.
+ghost use Rattle.std.specs.Prelude.{◌≡◌, ◌↔◌, [], IsTrue, All};
+ghost use Rattle.std.specs.List.Sorted.{IsStrictlySortedBy};
+ghost use Rattle.std.specs.Map.{keys_of, values_of};
+ghost use Rattle.flow_term.specs.Elements.{elem_cmp};
+ghost use Rattle.flow_term.specs.declared.value.Value.{out-Value};
+ghost use Rattle.flow_term.specs.declared.value.Value.TheVariants.{Bottom, Map, Set, Unreached};
+ghost use Rattle.flow_syntax.specs.Types.{sort_of};
+ghost use Rattle.flow_syntax.specs.Lattices.{IsFlat, IsMapOf, IsMay, IsMust, IsOfSort, IsSetOf, Valid, bottom_of, is_of_sort, pairs_of};
+ghost use Rattle.lattice_any.specs.Members.{IsBelowFirst, IsKeptIn};
+ghost use Rattle.lattice_any.specs.Types.{type_of};
+
+use crate::any::AnyL;
+use flow_syntax::ElemSort;
+use flow_term::{Elem, Entry, Value};
+
+/// Whether the element is of the sort.
+fn has_sort(sort: &ElemSort, elem: &Elem) -> bool
+    ensures { result ≡ is_of_sort (sort_of sort.now) elem.now }
+{
+    match sort {
+        ElemSort::Name => matches!(elem, Elem::Name(_)),
+        ElemSort::Pos => matches!(elem, Elem::Pos(_)),
+        ElemSort::Str => matches!(elem, Elem::Str(_)),
+        ElemSort::Int => matches!(elem, Elem::Int(_)),
+        ElemSort::Enum(_) => matches!(elem, Elem::Item(_)),
+        ElemSort::Pair(first, second) => match elem {
+            Elem::Pair(a, b) => has_sort(first.get(), a.get()) && has_sort(second.get(), b.get()),
+            _ => false,
+        },
+    }
+}
+
+/// Whether each element is of the sort.
+fn have_sort(sort: &ElemSort, elems: &[Elem]) -> bool
+    ensures { IsTrue result ↔ All (IsOfSort (sort_of sort.now)) elems.now }
+{
+    elems.iter().all(|elem| has_sort(sort, elem))
+}
+
+/// Whether the element is below the first of the others.
+fn is_below_first(elem: &Elem, others: &[Elem]) -> bool
+    ensures { IsTrue result ↔ IsBelowFirst elem.now others.now }
+{
+    match others.first() {
+        Some(first) => elem.cmp(first).is_lt(),
+        None => true,
+    }
+}
+
+/// Whether the elements rise strictly.
+fn is_rising(elems: &[Elem]) -> bool
+    ensures { IsTrue result ↔ IsStrictlySortedBy elem_cmp elems.now }
+{
+    let mut rest = elems;
+    while let Some((elem, others)) = rest.split_first() {
+        if !is_below_first(elem, others) {
+            return false;
+        }
+        rest = others;
+    }
+    true
+}
+
+/// Whether the elements are a set of the sort.
+fn is_set(sort: &ElemSort, elems: &[Elem]) -> bool
+    ensures { IsTrue result ↔ IsSetOf (sort_of sort.now) elems.now }
+{
+    is_rising(elems) && have_sort(sort, elems)
+}
+
+fn is_may(sort: &ElemSort, value: &Value) -> bool
+    ensures { IsTrue result ↔ IsMay (sort_of sort.now) (out-Value value.now) }
+{
+    match value {
+        Value::Set(elems) => is_set(sort, elems.as_slice()),
+        _ => false,
+    }
+}
+
+fn is_must(sort: &ElemSort, value: &Value) -> bool
+    ensures { IsTrue result ↔ IsMust (sort_of sort.now) (out-Value value.now) }
+{
+    match value {
+        Value::Unreached => true,
+        Value::Set(elems) => is_set(sort, elems.as_slice()),
+        _ => false,
+    }
+}
+
+fn is_flat(sort: &ElemSort, value: &Value) -> bool
+    ensures { IsTrue result ↔ IsFlat (sort_of sort.now) (out-Value value.now) }
+{
+    match value {
+        Value::Bottom | Value::Top => true,
+        Value::Flat(elem) => has_sort(sort, elem),
+        _ => false,
+    }
+}
+
+fn is_empty_set(value: &Value) -> bool
+    ensures { IsTrue result ↔ (value.now ≡ Set []) }
+{
+    match value {
+        Value::Set(elems) => elems.as_slice().is_empty(),
+        _ => false,
+    }
+}
+
+fn is_empty_map(value: &Value) -> bool
+    ensures { IsTrue result ↔ (value.now ≡ Map []) }
+{
+    match value {
+        Value::Map(entries) => entries.as_slice().is_empty(),
+        _ => false,
+    }
+}
+
+fn is_unreached(value: &Value) -> bool
+    ensures { IsTrue result ↔ (value.now ≡ Unreached) }
+{
+    matches!(value, Value::Unreached)
+}
+
+fn is_bottom(value: &Value) -> bool
+    ensures { IsTrue result ↔ (value.now ≡ Bottom) }
+{
+    matches!(value, Value::Bottom)
+}
+
+/// Whether the value is the least of the lattice.
+fn is_least(lattice: &AnyL, value: &Value) -> bool
+    ensures { IsTrue result ↔ (value.now ≡ bottom_of (type_of lattice.now)) }
+{
+    match lattice {
+        AnyL::May(_) => is_empty_set(value),
+        AnyL::Must(_) => is_unreached(value),
+        AnyL::Flat(_) => is_bottom(value),
+        AnyL::Map(_, _) => is_empty_map(value),
+        AnyL::Pair(left, right) => match value {
+            Value::Pair(a, b) => is_least(left.get(), a.get()) && is_least(right.get(), b.get()),
+            _ => false,
+        },
+    }
+}
+
+/// Whether the key is below the first of the others.
+fn is_below_first_key(key: &Elem, others: &[Entry]) -> bool
+    ensures { IsTrue result ↔ IsBelowFirst key.now (keys_of (pairs_of others.now)) }
+{
+    match others.first() {
+        Some(first) => key.cmp(&first.key).is_lt(),
+        None => true,
+    }
+}
+
+/// Whether the keys rise strictly.
+fn keys_rise(entries: &[Entry]) -> bool
+    ensures { IsTrue result ↔ IsStrictlySortedBy elem_cmp (keys_of (pairs_of entries.now)) }
+{
+    let mut rest = entries;
+    while let Some((entry, others)) = rest.split_first() {
+        if !is_below_first_key(&entry.key, others) {
+            return false;
+        }
+        rest = others;
+    }
+    true
+}
+
+/// Whether each key is of the sort.
+fn keys_have_sort(sort: &ElemSort, entries: &[Entry]) -> bool
+    ensures { IsTrue result ↔ All (IsOfSort (sort_of sort.now)) (keys_of (pairs_of entries.now)) }
+{
+    entries.iter().all(|entry| has_sort(sort, &entry.key))
+}
+
+/// Whether the value is one of the lattice.
+#[cycle(member)]
+pub(crate) fn is_value(lattice: &AnyL, value: &Value) -> bool
+    ensures { IsTrue result ↔ Valid (type_of lattice.now) value.now }
+{
+    match lattice {
+        AnyL::May(sort) => is_may(sort, value),
+        AnyL::Must(sort) => is_must(sort, value),
+        AnyL::Flat(sort) => is_flat(sort, value),
+        AnyL::Map(sort, values) => match value {
+            Value::Map(entries) => is_map(sort, values.get(), entries.as_slice()),
+            _ => false,
+        },
+        AnyL::Pair(left, right) => match value {
+            Value::Pair(a, b) => is_value(left.get(), a.get()) && is_value(right.get(), b.get()),
+            _ => false,
+        },
+    }
+}
+
+/// Whether the entries are a map from elements of the sort to values of the lattice.
+#[cycle(member)]
+fn is_map(sort: &ElemSort, values: &AnyL, entries: &[Entry]) -> bool
+    ensures { IsTrue result ↔ IsMapOf (sort_of sort.now) (Valid (type_of values.now)) (bottom_of (type_of values.now)) (pairs_of entries.now) }
+{
+    keys_rise(entries) && keys_have_sort(sort, entries) && are_kept(values, entries)
+}
+
+/// Whether each value is one of the lattice other than its least.
+#[cycle(member)]
+fn are_kept(values: &AnyL, entries: &[Entry]) -> bool
+    ensures { IsTrue result ↔ All (λ e. IsKeptIn (type_of values.now) e.value) entries.now }
+{
+    for entry in entries {
+        if !is_value(values, &entry.value) || is_least(values, &entry.value) {
+            return false;
+        }
+    }
+    true
+}

@@ -1,0 +1,11 @@
+pub mod ElemTexts
+pub mod Forms
+pub mod Leaves
+pub mod Lists
+pub mod Numbers
+pub mod Paths
+pub mod Quotes
+pub mod Tokens
+pub mod Turns
+pub mod ValueTexts
+pub mod Writing

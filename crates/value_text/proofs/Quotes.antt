@@ -1,0 +1,98 @@
+-- Reading what stands between quotes.
+use Rattle.std.proofs.Common.{◌≡◌, ℕ, ◌+◌, ◌-◌, ◌*◌, ◌<◌, ◌≤◌, Bool, true, false, ◌&&◌, ◌||◌, List, [], ◌∷◌, ◌++◌, length, Some, refl, sym, ap, subst, ◌∙◌, arith, append_assoc, length-append}
+use Rattle.std.specs.Prelude.{◌==◌, ◌/◌, ◌%◌, nat_lt, nat_le, if◌then◌else◌, IsUtf8}
+use Rattle.std.specs.Char.{is_ascii_digit}
+use Rattle.std.specs.List.{flat_map}
+use Rattle.std.proofs.lemmas.Bool.Decides.{nat_tests}
+use Rattle.flow_syntax.specs.Lexing.{octal_value}
+use Rattle.value_text.specs.Texts.{byte_text}
+use Rattle.value_text.specs.Reading.{Reading, ◌>>=◌, all_until, begins_with, escape_of, part_of, quoted_of}
+use Rattle.value_text.proofs.Tokens.{is_a_text}
+use Rattle.value_text.proofs.Turns.{end, turn}
+
+-- A text stands for a byte between quotes of this kind.
+record StandsFor (quote c : ℕ) (text : List ℕ) : Type 0 where
+  some : 0 < length text
+  opens : (rest : List ℕ) → begins_with quote (text ++ rest) ≡ false
+  read : (rest : List ℕ) → part_of (text ++ rest) ≡ Some (c, rest)
+
+chosen_text : (quote c : ℕ) (t : Bool) (x y : List ℕ) → (t ≡ true → StandsFor quote c x) → (t ≡ false → StandsFor quote c y) → StandsFor quote c (if t then x else y)
+chosen_text quote c true x y f g = f refl
+chosen_text quote c false x y f g = g refl
+
+same : (c d : ℕ) → (c == d) ≡ true → c ≡ d
+same c d h = grind (arith, nat_tests)
+
+-- what a quote is: not a backslash, and no letter of an escape
+pub record IsQuote (quote : ℕ) : Type 0 where
+  pub itself : (quote == quote) ≡ true
+  pub no_backslash : (92 == quote) ≡ false
+  pub escaped : (rest : List ℕ) → escape_of (quote ∷ rest) ≡ Some (quote, rest)
+
+octal_digits : (c : ℕ) → c < 128 → (48 + c / 64 ≤ 49) × (48 + c / 8 % 8 ≤ 55) × (48 + c % 8 ≤ 55) × ((48 + c / 64 - 48) * 64 + (48 + c / 8 % 8 - 48) * 8 + (48 + c % 8 - 48) ≡ c)
+octal_digits c h = (omega arith, omega arith, omega arith, omega arith)
+
+between : (c d : ℕ) → 48 ≤ c → c ≤ d → (nat_le 48 c && nat_le c d) ≡ true
+between c d h k = grind (arith, nat_tests)
+
+octal_read : (c : ℕ) → c < 128 → octal_value (48 + c / 64) (48 + c / 8 % 8) (48 + c % 8) ≡ Some c
+octal_read c h =
+    let p = octal_digits c h in
+    let high = between (48 + c / 64) 49 (omega arith) p.0 in
+    let middle = between (48 + c / 8 % 8) 55 (omega arith) p.1 in
+    let low = between (48 + c % 8) 55 (omega arith) p.2 in
+    rw (high, middle, low, p.3) refl
+
+no_letter : (h d : ℕ) → h ≤ 57 → 57 < d → (h == d) ≡ false
+no_letter h d k l = grind (arith, nat_tests)
+
+is_digit : (h : ℕ) → 48 ≤ h → h ≤ 57 → is_ascii_digit h ≡ true
+is_digit h k l = grind (arith, nat_tests)
+
+escape_read : (c : ℕ) (rest : List ℕ) → c < 128 → escape_of ((48 + c / 64) ∷ (48 + c / 8 % 8) ∷ (48 + c % 8) ∷ rest) ≡ Some (c, rest)
+escape_read c rest h =
+    let p = octal_digits c h in
+    let small : 48 + c / 64 ≤ 57 = omega (arith, p.0) in
+    rw (no_letter (48 + c / 64) 110 small (omega arith), no_letter (48 + c / 64) 116 small (omega arith), no_letter (48 + c / 64) 114 small (omega arith), is_digit (48 + c / 64) (omega arith) small, octal_read c h) refl
+
+control : (c : ℕ) → (nat_lt c 32 || c == 127) ≡ true → c < 128
+control c h = grind (arith, nat_tests)
+
+module _ (quote : ℕ) (q : IsQuote quote) where
+  short : (c d : ℕ) → ((rest : List ℕ) → escape_of (d ∷ rest) ≡ Some (c, rest)) → StandsFor quote c (92 ∷ d ∷ [])
+  short c d e = record { some = omega arith; opens = λ rest. q.no_backslash; read = λ rest. e rest }
+
+  byte_stands : (c : ℕ) → StandsFor quote c (byte_text quote c)
+  byte_stands c =
+      chosen_text quote c (c == quote) _ _ (λ e. subst (λ (d : ℕ). StandsFor quote d (92 ∷ quote ∷ [])) (sym (same c quote e)) (short quote quote q.escaped)) (λ other.
+      chosen_text quote c (c == 92) _ _ (λ e. subst (λ (d : ℕ). StandsFor quote d (92 ∷ 92 ∷ [])) (sym (same c 92 e)) (short 92 92 (λ rest. refl))) (λ plain.
+      chosen_text quote c (c == 10) _ _ (λ e. subst (λ (d : ℕ). StandsFor quote d (92 ∷ 110 ∷ [])) (sym (same c 10 e)) (short 10 110 (λ rest. refl))) (λ _.
+      chosen_text quote c (c == 9) _ _ (λ e. subst (λ (d : ℕ). StandsFor quote d (92 ∷ 116 ∷ [])) (sym (same c 9 e)) (short 9 116 (λ rest. refl))) (λ _.
+      chosen_text quote c (c == 13) _ _ (λ e. subst (λ (d : ℕ). StandsFor quote d (92 ∷ 114 ∷ [])) (sym (same c 13 e)) (short 13 114 (λ rest. refl))) (λ _.
+      chosen_text quote c (nat_lt c 32 || c == 127) _ _
+      (λ e. record { some = omega arith; opens = λ rest. q.no_backslash; read = λ rest. escape_read c rest (control c e) })
+      (λ _. record { some = omega arith; opens = λ rest. other; read = λ rest. rw plain refl }))))))
+
+  parts_read : (text rest : List ℕ) → all_until quote part_of (flat_map (byte_text quote) text ++ quote ∷ rest) ≡ Some (text, rest)
+  parts_read [] rest = end quote part_of (quote ∷ rest) q.itself
+  parts_read (c ∷ text) rest =
+      let first = byte_stands c in
+      let after : List ℕ = flat_map (byte_text quote) text ++ quote ∷ rest in
+      let whole : (byte_text quote c ++ flat_map (byte_text quote) text) ++ quote ∷ rest ≡ byte_text quote c ++ after = append_assoc (byte_text quote c) (flat_map (byte_text quote) text) (quote ∷ rest) in
+      let less : length after < length (byte_text quote c ++ after) = omega (arith, first.some, length-append (byte_text quote c) after) in
+      let one = turn quote part_of (byte_text quote c ++ after) after c (first.opens after) (first.read after) less in
+      let more : all_until quote part_of after ≡ Some (text, rest) = parts_read text rest in
+      ap (all_until quote part_of) whole ∙ one ∙ ap (λ (o : Reading (List ℕ)). o >>= λ ys. Some (c ∷ ys.0, ys.1)) more
+
+  -- a text between quotes is read
+  pub quoted_read : (text rest : List ℕ) → IsUtf8 text → quoted_of quote ((flat_map (byte_text quote) text ++ quote ∷ []) ++ rest) ≡ Some (text, rest)
+  unfolding quoted_of
+  quoted_read text rest u =
+      let whole : (flat_map (byte_text quote) text ++ quote ∷ []) ++ rest ≡ flat_map (byte_text quote) text ++ quote ∷ rest = append_assoc (flat_map (byte_text quote) text) (quote ∷ []) rest in
+      rw (whole, parts_read text rest, is_a_text text u) refl
+
+pub double : IsQuote 34
+double = record { itself = refl; no_backslash = refl; escaped = λ rest. refl }
+
+pub single : IsQuote 39
+single = record { itself = refl; no_backslash = refl; escaped = λ rest. refl }

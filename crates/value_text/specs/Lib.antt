@@ -1,0 +1,5 @@
+pub mod Integers
+pub mod Laws
+pub mod Reading
+pub mod Rising
+pub mod Texts

@@ -1,0 +1,208 @@
+-- What the reader computes: a value and the bytes behind it, or nothing. It takes each value's text, and others that their value's text then
+-- tells from it.
+use Rattle.std.specs.Prelude.{◌≡◌, ℕ, zero, suc, ◌+◌, ◌*◌, ◌^◌, ◌==◌, ◌&&◌, ◌||◌, nat_lt, if◌then◌else◌, Bool, false, ℤ, pos, negsuc, List, [], ◌∷◌, ◌++◌, length, take, drop, codes, bytes_eq, Option, Some, None, option_and_then, option_map, unwrap_or, Result, Ok, Err}
+use Rattle.std.specs.Char.{digit_value, is_ascii_alphanumeric, is_ascii_digit}
+use Rattle.std.specs.List.{prefix_len, list_all}
+use Rattle.std.specs.Cmp.Lexicographic.{pointwise}
+use Rattle.std.specs.Str.{all_ascii_digits, is_utf8}
+use Rattle.std.specs.Str.Parse.{signed_digits_value, without_leading_sign}
+use Rattle.flow_term.specs.declared.elem.Elem.{Elem}
+use Rattle.flow_term.specs.declared.elem.Elem.TheVariants as elem
+use Rattle.flow_term.specs.declared.value.Entry.{Entry}
+use Rattle.flow_term.specs.declared.value.Value.{Value}
+use Rattle.flow_term.specs.declared.value.Value.TheVariants as value
+use Rattle.flow_term.specs.declared.path_text.PathRefusal.{PathRefusal}
+use Rattle.flow_term.specs.declared.path_text.PathRefusal.TheVariants as paths
+use Rattle.flow_term.specs.Paths.{path_text}
+use Rattle.flow_syntax.specs.Lexing.{octal_value}
+use Rattle.value_text.specs.declared.refusal.ValueRefusal.{ValueRefusal}
+use Rattle.value_text.specs.declared.refusal.ValueRefusal.TheVariants.{Form, NoMemory}
+
+-- -- answers
+
+abbrev pub Reading : Type 0 → Type 0
+Reading X = Option (X × List ℕ)
+
+abbrev pub GivesNone : {Y : Type 0} → ValueRefusal → Option Y → Type 0
+GivesNone Form o = o ≡ None
+GivesNone NoMemory o = Unit {0}
+
+-- the value, or `Form` where there is none, unless memory ran out
+abbrev pub Gives : {X Y : Type 0} → (X → Y) → Result X ValueRefusal → Option Y → Type 0
+Gives view (Ok x) o = o ≡ Some (view x)
+Gives view (Err e) o = GivesNone e o
+
+-- the refusal of a value for a refusal of a path in it
+abbrev pub IsOfPath : PathRefusal → ValueRefusal → Type 0
+IsOfPath paths.Form e = e ≡ Form
+IsOfPath paths.NoMemory e = e ≡ NoMemory
+
+infixl 10 ◌>>=◌
+abbrev pub ◌>>=◌ : {A B : Type 0} → Option A → (A → Option B) → Option B
+o >>= f = option_and_then f o
+
+-- what was read, as a part of something else
+abbrev pub as_part : {X Y : Type 0} → (X → Y) → Reading X → Reading Y
+as_part f o = o >>= λ x. Some (f x.0, x.1)
+
+-- -- bytes
+
+abbrev pub begins_with : ℕ → List ℕ → Bool
+begins_with b [] = false
+begins_with b (c ∷ cs) = c == b
+
+-- what stands behind a text, where the bytes begin with it
+abbrev pub behind : List ℕ → List ℕ → Option (List ℕ)
+behind text bs = if pointwise ◌==◌ (take (length text) bs) text then Some (drop (length text) bs) else None
+
+abbrev pub without_comma : List ℕ → List ℕ
+without_comma bs = unwrap_or (behind (codes ", ") bs) bs
+
+-- things up to this byte, each shorter than what it stands in, at most so many
+unfoldable pub until : {X : Type 0} → ℕ → (List ℕ → Reading X) → ℕ → List ℕ → Reading (List X)
+until closing read zero bs = None
+until closing read (suc n) bs = if begins_with closing bs then Some ([], drop 1 bs)
+    else (read bs >>= λ x. if nat_lt (length x.1) (length bs) then (until closing read n x.1 >>= λ xs. Some (x.0 ∷ xs.0, xs.1)) else None)
+
+-- things up to this byte, and what stands behind it
+abbrev pub all_until : {X : Type 0} → ℕ → (List ℕ → Reading X) → List ℕ → Reading (List X)
+all_until closing read bs = until closing read (suc (length bs)) bs
+
+-- more things behind those that were read before
+abbrev pub continued : {X : Type 0} → List X → Reading (List X) → Reading (List X)
+continued before more = more >>= λ xs. Some (before ++ xs.0, xs.1)
+
+-- -- tokens
+
+-- a letter, a digit, `_`, `/` or `-`
+abbrev pub is_token_byte : ℕ → Bool
+is_token_byte b = is_ascii_alphanumeric b || (b == 95) || (b == 47) || (b == 45)
+
+abbrev pub token_len : List ℕ → ℕ
+token_len bs = prefix_len is_token_byte bs
+
+-- the longest front of such bytes, if it's not empty
+abbrev pub token_of : List ℕ → Reading (List ℕ)
+token_of bs = if token_len bs == 0 then None else Some (take (token_len bs) bs, drop (token_len bs) bs)
+
+abbrev pub text_of : List ℕ → Option (List ℕ)
+text_of bs = if is_utf8 bs then Some bs else None
+
+-- -- between quotes
+
+-- the byte that three octal digits stand for
+abbrev pub octal_at : List ℕ → Reading ℕ
+octal_at (h ∷ m ∷ l ∷ rest) = option_map (λ b. (b, rest)) (octal_value h m l)
+octal_at _ = None
+
+-- the byte that stands behind a backslash, or that it stands for
+abbrev pub escape_of : List ℕ → Reading ℕ
+escape_of [] = None
+escape_of (b ∷ rest) = if b == 110 then Some (10, rest)
+    else (if b == 116 then Some (9, rest)
+    else (if b == 114 then Some (13, rest)
+    else (if is_ascii_digit b then octal_at (b ∷ rest) else Some (b, rest))))
+
+abbrev pub part_of : List ℕ → Reading ℕ
+part_of [] = None
+part_of (b ∷ rest) = if b == 92 then escape_of rest else Some (b, rest)
+
+-- the text up to a quote of this kind
+unfoldable pub quoted_of : ℕ → List ℕ → Reading (List ℕ)
+quoted_of quote bs = all_until quote part_of bs >>= λ x. text_of x.0 >>= λ text. Some (text, x.1)
+
+-- -- integers and paths
+
+-- below 2^63, or not below -2^63
+abbrev pub is_i64 : ℤ → Bool
+is_i64 (pos n) = nat_lt n (2 ^ 63)
+is_i64 (negsuc n) = nat_lt n (2 ^ 63)
+
+-- one digit or more
+abbrev pub is_numeral : List ℕ → Bool
+is_numeral bs = nat_lt 0 (length bs) && all_ascii_digits bs
+
+-- the integer of a sign and digits
+abbrev pub number_in : List ℕ → Option ℤ
+number_in bs = if is_numeral (without_leading_sign bs) && is_i64 (signed_digits_value 10 bs) then Some (signed_digits_value 10 bs) else None
+
+unfoldable pub integer_of : List ℕ → Option ℤ
+integer_of bs = if is_utf8 bs then number_in bs else None
+
+-- the numbers that digits and the slashes between them write, the first after n
+abbrev pub steps_after : ℕ → List ℕ → List ℕ
+steps_after n [] = n ∷ []
+steps_after n (b ∷ bs) = if b == 47 then n ∷ steps_after 0 bs else steps_after (n * 10 + digit_value b) bs
+
+abbrev pub steps_behind : List ℕ → List ℕ
+steps_behind [] = []
+steps_behind (b ∷ bs) = steps_after 0 (b ∷ bs)
+
+-- these steps, if they are a path of this text
+abbrev pub path_if : List ℕ → List ℕ → Option (List ℕ)
+path_if bs path = if bytes_eq (path_text path) bs && list_all (λ n. nat_lt n (2 ^ 32)) path then Some path else None
+
+-- the path of a text
+unfoldable pub path_of : List ℕ → Option (List ℕ)
+path_of bs = path_if bs (steps_behind (drop 1 bs))
+
+-- -- elements
+
+unfoldable pub pair_with : {X : Type 0} → (X → X → X) → (List ℕ → Reading X) → List ℕ → Reading X
+pair_with pair part bs = part bs >>= λ a. behind (codes ", ") a.1 >>= λ r. part r >>= λ b. behind (codes ")") b.1 >>= λ s. Some (pair a.0 b.0, s)
+
+-- the elements that one token is
+abbrev pub begins_integer : List ℕ → Bool
+begins_integer [] = false
+begins_integer (b ∷ bs) = b == 45 || is_ascii_digit b
+
+abbrev pub token_elem : List ℕ → Option Elem
+token_elem token = if begins_with 47 token then option_map elem.Pos (path_of token)
+    else (if begins_integer token then option_map elem.Int (integer_of token) else option_map elem.Item (text_of token))
+
+unfoldable pub plain_elem : List ℕ → Reading Elem
+plain_elem bs = token_of bs >>= λ t. token_elem t.0 >>= λ e. Some (e, t.1)
+
+-- an element, from a reader of its parts
+unfoldable pub elem_with : (List ℕ → Reading Elem) → List ℕ → Reading Elem
+elem_with part bs = if begins_with 34 bs then as_part elem.Name (quoted_of 34 (drop 1 bs))
+    else (if begins_with 39 bs then as_part elem.Str (quoted_of 39 (drop 1 bs))
+    else (if begins_with 40 bs then pair_with elem.Pair part (drop 1 bs) else plain_elem bs))
+
+-- an element inside so many pairs of brackets less one
+abbrev pub elem_below : ℕ → List ℕ → Reading Elem
+elem_below zero bs = None
+elem_below (suc n) bs = elem_with (elem_below n) bs
+
+-- -- values
+
+-- a thing, and a comma behind it, if there is one
+abbrev pub and_comma : {X : Type 0} → (List ℕ → Reading X) → List ℕ → Reading X
+and_comma read bs = read bs >>= λ x. Some (x.0, without_comma x.1)
+
+unfoldable pub entry_with : (List ℕ → Reading Elem) → (List ℕ → Reading Value) → List ℕ → Reading Entry
+entry_with elem value bs = elem bs >>= λ k. behind (codes " |-> ") k.1 >>= λ r. value r >>= λ v. Some (record { key = k.0; value = v.0 }, v.1)
+
+unfoldable pub flat_with : (List ℕ → Reading Elem) → List ℕ → Reading Value
+flat_with elem bs = behind (codes "(") bs >>= λ r. elem r >>= λ e. behind (codes ")") e.1 >>= λ s. Some (value.Flat e.0, s)
+
+-- the value that begins with a word
+abbrev pub word_with : (List ℕ → Reading Elem) → List ℕ → List ℕ → Reading Value
+word_with elem word rest = if bytes_eq word (codes "unreached") then Some (value.Unreached, rest)
+    else (if bytes_eq word (codes "bottom") then Some (value.Bottom, rest)
+    else (if bytes_eq word (codes "top") then Some (value.Top, rest)
+    else (if bytes_eq word (codes "flat") then flat_with elem rest else Some (value.Item word, rest))))
+
+unfoldable pub plain_value : (List ℕ → Reading Elem) → List ℕ → Reading Value
+plain_value elem bs = token_of bs >>= λ t. text_of t.0 >>= λ word. word_with elem word t.1
+
+-- a value, from readers of its parts
+unfoldable pub value_with : (List ℕ → Reading Elem) → (List ℕ → Reading Value) → List ℕ → Reading Value
+value_with elem part bs = if begins_with 123 bs then as_part value.Set (all_until 125 (and_comma elem) (drop 1 bs))
+    else (if begins_with 91 bs then as_part value.Map (all_until 93 (and_comma (entry_with elem part)) (drop 1 bs))
+    else (if begins_with 40 bs then pair_with value.Pair part (drop 1 bs) else plain_value elem bs))
+
+-- a value inside so many pairs of brackets less one
+abbrev pub value_below : ℕ → List ℕ → Reading Value
+value_below zero bs = None
+value_below (suc n) bs = value_with (elem_below n) (value_below n) bs

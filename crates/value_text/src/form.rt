@@ -1,0 +1,181 @@
+//! Which values have a text.
+ghost use Rattle.std.specs.Prelude.{◌≡◌, ◌↔◌, All, IsTrue};
+ghost use Rattle.std.specs.List.{list_all};
+ghost use Rattle.std.specs.List.Sorted.{IsStrictlySortedBy};
+ghost use Rattle.flow_term.specs.declared.value.Value.{out-Value};
+ghost use Rattle.flow_term.specs.Elements.{elem_cmp};
+ghost use Rattle.flow_syntax.specs.Accepted.{IsIdentifier};
+ghost use Rattle.flow_syntax.specs.Tokens.{IsName, is_name_byte};
+ghost use Rattle.value_text.specs.Rising.{IsBelowFirst};
+ghost use Rattle.value_text.specs.Texts.{HasElemText, HasText, HasValueText, IsPlain, IsPlainOrAround, keys};
+
+use crate::limits::{integer_is_in_range, steps_are_small, text_is_utf8};
+use flow_syntax::is_reserved;
+use flow_term::{Elem, Entry, Text, Value};
+
+/// Whether the value has a text: sets and the keys of maps rise strictly, items are identifiers and no reserved words, and brackets nest at
+/// most 16 deep. Takes no memory.
+pub fn has_text(value: &Value) -> bool
+    ensures { IsTrue result ↔ HasText value.now }
+{
+    value_has_text(16, value)
+}
+
+fn is_name_byte(byte: u8) -> bool
+    ensures { result ≡ is_name_byte byte }
+{
+    byte.is_ascii_alphanumeric() || byte == b'_'
+}
+
+fn are_name_bytes(bytes: &[u8]) -> bool
+    ensures { result ≡ list_all is_name_byte bytes.now }
+{
+    bytes.iter().all(|byte| is_name_byte(*byte))
+}
+
+fn is_name(bytes: &[u8]) -> bool
+    ensures { IsTrue result ↔ IsName bytes.now }
+{
+    match bytes {
+        [first, others @ ..] => first.is_ascii_alphabetic() && are_name_bytes(others),
+        [] => false,
+    }
+}
+
+fn is_identifier(text: &Text) -> bool
+    ensures { IsTrue result ↔ IsIdentifier text.now }
+{
+    is_name(text.as_str().as_bytes()) && !is_reserved(text.as_str())
+}
+
+/// Whether the element is below the first of the others.
+fn is_below_first(elem: &Elem, others: &[Elem]) -> bool
+    ensures { IsTrue result ↔ IsBelowFirst elem.now others.now }
+{
+    match others.first() {
+        Some(first) => elem.cmp(first).is_lt(),
+        None => true,
+    }
+}
+
+/// Whether the elements rise strictly.
+fn elems_rise(elems: &[Elem]) -> bool
+    ensures { IsTrue result ↔ IsStrictlySortedBy elem_cmp elems.now }
+{
+    let mut rest = elems;
+    while let Some((elem, others)) = rest.split_first() {
+        if !is_below_first(elem, others) {
+            return false;
+        }
+        rest = others;
+    }
+    true
+}
+
+/// Whether the key is below the first of the others.
+fn is_below_first_key(key: &Elem, others: &[Entry]) -> bool
+    ensures { IsTrue result ↔ IsBelowFirst key.now (keys others.now) }
+{
+    match others.first() {
+        Some(first) => key.cmp(&first.key).is_lt(),
+        None => true,
+    }
+}
+
+/// Whether the keys rise strictly.
+fn keys_rise(entries: &[Entry]) -> bool
+    ensures { IsTrue result ↔ IsStrictlySortedBy elem_cmp (keys entries.now) }
+{
+    let mut rest = entries;
+    while let Some((entry, others)) = rest.split_first() {
+        if !is_below_first_key(&entry.key, others) {
+            return false;
+        }
+        rest = others;
+    }
+    true
+}
+
+/// Whether the element has a text, in which brackets nest at most so deep.
+fn elem_has_text(nesting: usize, elem: &Elem) -> bool
+    ensures { IsTrue result ↔ HasElemText nesting elem.now }
+{
+    match elem {
+        Elem::Name(text) | Elem::Str(text) => {
+            text_is_utf8(text);
+            true
+        }
+        Elem::Pos(path) => {
+            steps_are_small(path);
+            true
+        }
+        Elem::Item(text) => is_identifier(text),
+        Elem::Int(number) => {
+            integer_is_in_range(*number);
+            true
+        }
+        Elem::Pair(left, right) => {
+            if nesting == 0 {
+                return false;
+            }
+            elem_has_text(nesting - 1, left.get()) && elem_has_text(nesting - 1, right.get())
+        }
+    }
+}
+
+fn elems_have_text(nesting: usize, elems: &[Elem]) -> bool
+    ensures { IsTrue result ↔ All (HasElemText nesting) elems.now }
+{
+    elems.iter().all(|elem| elem_has_text(nesting, elem))
+}
+
+/// Whether the value has a text without brackets.
+fn is_plain(value: &Value) -> bool
+    ensures { IsTrue result ↔ IsPlain (out-Value value.now) }
+{
+    match value {
+        Value::Unreached | Value::Bottom | Value::Top => true,
+        Value::Item(text) => is_identifier(text),
+        _ => false,
+    }
+}
+
+/// Whether the value has a text, in which brackets nest at most so deep.
+#[cycle(form)]
+fn value_has_text(nesting: usize, value: &Value) -> bool
+    ensures { IsTrue result ↔ HasValueText nesting value.now }
+{
+    if nesting == 0 {
+        return is_plain(value);
+    }
+    parts_have_text(nesting - 1, value)
+}
+
+/// Whether the value has a text, in whose parts brackets nest at most so deep.
+#[cycle(form)]
+fn parts_have_text(nesting: usize, value: &Value) -> bool
+    ensures { IsTrue result ↔ IsPlainOrAround (HasElemText nesting) (HasValueText nesting) (out-Value value.now) }
+{
+    match value {
+        Value::Set(elems) => elems_rise(elems.as_slice())
+            && elems_have_text(nesting, elems.as_slice()),
+        Value::Flat(elem) => elem_has_text(nesting, elem),
+        Value::Map(entries) => keys_rise(entries.as_slice())
+            && entries_have_text(nesting, entries.as_slice()),
+        Value::Pair(left, right) => value_has_text(nesting, left.get())
+            && value_has_text(nesting, right.get()),
+        _ => is_plain(value),
+    }
+}
+
+#[cycle(form)]
+fn entries_have_text(nesting: usize, entries: &[Entry]) -> bool
+    ensures { IsTrue result ↔ All (λ entry. HasElemText nesting entry.key × HasValueText nesting entry.value) entries.now }
+{
+    for entry in entries {
+        if !elem_has_text(nesting, &entry.key) || !value_has_text(nesting, &entry.value) {
+            return false;
+        }
+    }
+    true
+}

@@ -1,0 +1,22 @@
+//! The one text of a value, both ways.
+#![tactic(auto)]
+
+mod bytes;
+mod elems;
+mod form;
+mod laws;
+mod limits;
+mod quoted;
+mod reader;
+mod refusal;
+mod values;
+mod writer;
+
+pub use form::has_text;
+pub use laws::texts_have_one_value;
+pub use reader::read_value;
+pub use refusal::ValueRefusal;
+pub use writer::write_value;
+
+#[cfg(test)]
+mod tests;

@@ -1,0 +1,86 @@
+//! Texts between quotes.
+ghost use Rattle.std.specs.Prelude.{◌≡◌, ◌<◌, ◌≤◌, IfOk, length};
+ghost use Rattle.value_text.specs.Reading.{Gives, all_until, escape_of, octal_at, part_of, quoted_of};
+ghost use Rattle.flow_syntax.specs.Lexing.{octal_value};
+
+use crate::bytes::{Reading, begins_with, behind_first, text_of};
+use crate::refusal::ValueRefusal;
+use flow_term::{List, Text};
+use std::alloc::Global;
+
+/// The byte that three octal digits stand for, if it is one of ASCII.
+fn octal_value(high: u8, middle: u8, low: u8) -> Option<u8>
+    ensures { result ≡ octal_value high middle low }
+{
+    match (high, middle, low) {
+        (b'0'..=b'1', b'0'..=b'7', b'0'..=b'7') => {
+            Some((high - b'0') * 64 + (middle - b'0') * 8 + (low - b'0'))
+        }
+        _ => None,
+    }
+}
+
+fn read_octal(bytes: &[u8]) -> Reading<'_, u8>
+    ensures read { Gives (λ x. (x.0, x.1.now)) result (octal_at bytes.now) }
+    ensures shorter { IfOk result (λ x. length x.1.now < length bytes.now) }
+{
+    match bytes {
+        [high, middle, low, rest @ ..] => match octal_value(*high, *middle, *low) {
+            Some(byte) => Ok((byte, rest)),
+            None => Err(ValueRefusal::Form),
+        },
+        _ => Err(ValueRefusal::Form),
+    }
+}
+
+/// The byte that stands behind a backslash, or that it stands for. Which of the two is a byte's one spelling is asked later.
+fn read_escape(bytes: &[u8]) -> Reading<'_, u8>
+    ensures read { Gives (λ x. (x.0, x.1.now)) result (escape_of bytes.now) }
+    ensures shorter { IfOk result (λ x. length x.1.now < length bytes.now) }
+{
+    match bytes {
+        [] => Err(ValueRefusal::Form),
+        [b'n', rest @ ..] => Ok((b'\n', rest)),
+        [b't', rest @ ..] => Ok((b'\t', rest)),
+        [b'r', rest @ ..] => Ok((b'\r', rest)),
+        [b'0'..=b'9', ..] => read_octal(bytes),
+        [byte, rest @ ..] => Ok((*byte, rest)),
+    }
+}
+
+/// The first byte of what stands between quotes.
+fn read_part(bytes: &[u8]) -> Reading<'_, u8>
+    ensures read { Gives (λ x. (x.0, x.1.now)) result (part_of bytes.now) }
+    ensures shorter { IfOk result (λ x. length x.1.now < length bytes.now) }
+{
+    match bytes {
+        [] => Err(ValueRefusal::Form),
+        [b'\\', rest @ ..] => read_escape(rest),
+        [byte, rest @ ..] => Ok((*byte, rest)),
+    }
+}
+
+/// What stands before a quote of this kind, and what behind it.
+fn read_parts(alloc: Global, quote: u8, bytes: &[u8]) -> Reading<'_, List<u8>>
+    ensures read { Gives (λ x. (x.0, x.1.now)) result (all_until quote part_of bytes.now) }
+    ensures shorter { IfOk result (λ x. length x.1.now < length bytes.now) }
+{
+    let mut parts = List::new(alloc);
+    let mut rest = bytes;
+    while !begins_with(rest, quote) {
+        let (byte, after) = read_part(rest)?;
+        parts.push(byte)?;
+        rest = after;
+    }
+    Ok((parts, behind_first(rest)))
+}
+
+/// The text before a quote of this kind, and what stands behind the quote.
+#[tactic(auto, unfolding(crate::specs::Reading::quoted_of))]
+pub fn read_quoted(alloc: Global, quote: u8, bytes: &[u8]) -> Reading<'_, Text>
+    ensures read { Gives (λ x. (x.0, x.1.now)) result (quoted_of quote bytes.now) }
+    ensures shorter { IfOk result (λ x. length x.1.now < length bytes.now) }
+{
+    let (parts, rest) = read_parts(alloc, quote, bytes)?;
+    Ok((text_of(alloc, parts.as_slice())?, rest))
+}

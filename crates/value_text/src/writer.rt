@@ -1,0 +1,178 @@
+//! Writing values.
+ghost use Rattle.std.specs.Prelude.{◌≡◌, ◌++◌, IfOk, OnOk, map, codes};
+ghost use Rattle.std.specs.Fmt.{signed_decimal};
+ghost use Rattle.flow_term.specs.Paths.{path_text};
+ghost use Rattle.value_text.specs.Laws.{IsTextOf};
+ghost use Rattle.value_text.specs.Texts.{HasText, byte_text, elem_text, entry_text, listed, octal_escape, quoted, separator, value_text};
+
+use flow_term::{Elem, Entry, List, Path, Text, Value, write_path};
+use itoa::Buffer;
+use std::alloc::{AllocError, Global};
+
+/// The text of a value that has one. Fails only for want of memory.
+pub fn write_value(alloc: Global, value: &Value) -> Result<List<u8>, AllocError>
+    requires { HasText value.now }
+    ensures { IfOk result (λ bytes. IsTextOf bytes value.now) }
+{
+    let mut bytes = Vec::new(alloc);
+    push_value(&mut bytes, value)?;
+    Ok(List::from_vec(bytes))
+}
+
+#[cycle(write)]
+fn push_value(bytes: &mut Vec<u8>, value: &Value) -> Result<(), AllocError>
+    ensures { OnOk result (bytes.new.items ≡ bytes.old.items ++ value_text value.now) }
+{
+    match value {
+        Value::Unreached => bytes.extend_from_slice(b"unreached"),
+        Value::Set(elems) => push_elems(bytes, elems.as_slice()),
+        Value::Bottom => bytes.extend_from_slice(b"bottom"),
+        Value::Top => bytes.extend_from_slice(b"top"),
+        Value::Flat(elem) => push_flat(bytes, elem),
+        Value::Map(entries) => push_entries(bytes, entries.as_slice()),
+        Value::Pair(left, right) => {
+            bytes.extend_from_slice(b"(")?;
+            push_value(bytes, left.get())?;
+            bytes.extend_from_slice(b", ")?;
+            push_value(bytes, right.get())?;
+            bytes.extend_from_slice(b")")
+        }
+        Value::Item(text) => push_text(bytes, text),
+    }
+}
+
+#[cycle(write)]
+fn push_entries(bytes: &mut Vec<u8>, entries: &[Entry]) -> Result<(), AllocError>
+    ensures { OnOk result (bytes.new.items ≡ bytes.old.items ++ codes "[" ++ listed (map entry_text entries.now) ++ codes "]") }
+{
+    bytes.extend_from_slice(b"[")?;
+    for (at, entry) in entries.iter().enumerate() {
+        push_separator(bytes, at)?;
+        push_entry(bytes, entry)?;
+    }
+    bytes.extend_from_slice(b"]")
+}
+
+#[cycle(write)]
+fn push_entry(bytes: &mut Vec<u8>, entry: &Entry) -> Result<(), AllocError>
+    ensures { OnOk result (bytes.new.items ≡ bytes.old.items ++ entry_text entry.now) }
+{
+    push_elem(bytes, &entry.key)?;
+    bytes.extend_from_slice(b" |-> ")?;
+    push_value(bytes, &entry.value)
+}
+
+fn push_elems(bytes: &mut Vec<u8>, elems: &[Elem]) -> Result<(), AllocError>
+    ensures { OnOk result (bytes.new.items ≡ bytes.old.items ++ codes "{" ++ listed (map elem_text elems.now) ++ codes "}") }
+{
+    bytes.extend_from_slice(b"{")?;
+    for (at, elem) in elems.iter().enumerate() {
+        push_separator(bytes, at)?;
+        push_elem(bytes, elem)?;
+    }
+    bytes.extend_from_slice(b"}")
+}
+
+fn push_flat(bytes: &mut Vec<u8>, elem: &Elem) -> Result<(), AllocError>
+    ensures { OnOk result (bytes.new.items ≡ bytes.old.items ++ codes "flat(" ++ elem_text elem.now ++ codes ")") }
+{
+    bytes.extend_from_slice(b"flat(")?;
+    push_elem(bytes, elem)?;
+    bytes.extend_from_slice(b")")
+}
+
+/// Adds what stands before an item with so many before it.
+fn push_separator(bytes: &mut Vec<u8>, before: usize) -> Result<(), AllocError>
+    ensures { OnOk result (bytes.new.items ≡ bytes.old.items ++ separator before) }
+{
+    if before == 0 {
+        return Ok(());
+    }
+    bytes.extend_from_slice(b", ")
+}
+
+fn push_elem(bytes: &mut Vec<u8>, elem: &Elem) -> Result<(), AllocError>
+    ensures { OnOk result (bytes.new.items ≡ bytes.old.items ++ elem_text elem.now) }
+{
+    match elem {
+        Elem::Name(text) => push_quoted(bytes, b'"', text),
+        Elem::Str(text) => push_quoted(bytes, b'\'', text),
+        Elem::Pos(path) => push_path(bytes, path),
+        Elem::Item(text) => push_text(bytes, text),
+        Elem::Int(number) => push_number(bytes, *number),
+        Elem::Pair(left, right) => {
+            bytes.extend_from_slice(b"(")?;
+            push_elem(bytes, left.get())?;
+            bytes.extend_from_slice(b", ")?;
+            push_elem(bytes, right.get())?;
+            bytes.extend_from_slice(b")")
+        }
+    }
+}
+
+fn push_text(bytes: &mut Vec<u8>, text: &Text) -> Result<(), AllocError>
+    ensures { OnOk result (bytes.new.items ≡ bytes.old.items ++ text.now) }
+{
+    bytes.extend_from_slice(text.as_str().as_bytes())
+}
+
+fn push_path(bytes: &mut Vec<u8>, path: &Path) -> Result<(), AllocError>
+    ensures { OnOk result (bytes.new.items ≡ bytes.old.items ++ path_text path.now) }
+{
+    let text = write_path(*bytes.allocator(), path)?;
+    bytes.extend_from_slice(text.as_slice())
+}
+
+fn push_number(bytes: &mut Vec<u8>, number: i64) -> Result<(), AllocError>
+    ensures { OnOk result (bytes.new.items ≡ bytes.old.items ++ signed_decimal number) }
+{
+    let mut buffer = Buffer::new();
+    bytes.extend_from_slice(buffer.format(number).as_bytes())
+}
+
+/// Adds a text between two quotes of this kind.
+fn push_quoted(bytes: &mut Vec<u8>, quote: u8, text: &Text) -> Result<(), AllocError>
+    ensures { OnOk result (bytes.new.items ≡ bytes.old.items ++ quoted quote text.now) }
+{
+    push_bytes(bytes, quote, text.as_str().as_bytes())
+}
+
+fn push_bytes(bytes: &mut Vec<u8>, quote: u8, text: &[u8]) -> Result<(), AllocError>
+    ensures { OnOk result (bytes.new.items ≡ bytes.old.items ++ quoted quote text.now) }
+{
+    bytes.push(quote)?;
+    for byte in text {
+        push_byte(bytes, quote, *byte)?;
+    }
+    bytes.push(quote)?;
+    Ok(())
+}
+
+/// Adds one byte of a text between quotes of this kind.
+fn push_byte(bytes: &mut Vec<u8>, quote: u8, byte: u8) -> Result<(), AllocError>
+    ensures { OnOk result (bytes.new.items ≡ bytes.old.items ++ byte_text quote byte) }
+{
+    if byte == quote {
+        return bytes.extend_from_slice(&[b'\\', quote]);
+    }
+    match byte {
+        b'\\' => bytes.extend_from_slice(b"\\\\"),
+        b'\n' => bytes.extend_from_slice(b"\\n"),
+        b'\t' => bytes.extend_from_slice(b"\\t"),
+        b'\r' => bytes.extend_from_slice(b"\\r"),
+        0..=31 | 127 => push_octal(bytes, byte),
+        _ => Ok(bytes.push(byte)?),
+    }
+}
+
+fn push_octal(bytes: &mut Vec<u8>, byte: u8) -> Result<(), AllocError>
+    ensures { OnOk result (bytes.new.items ≡ bytes.old.items ++ octal_escape byte) }
+{
+    let digits = [
+        b'\\',
+        b'0' + byte / 64,
+        b'0' + byte / 8 % 8,
+        b'0' + byte % 8,
+    ];
+    bytes.extend_from_slice(&digits)
+}
