@@ -1,0 +1,4 @@
+pub mod FaultLaws
+pub mod RuleLaws
+pub mod SectionLaws
+pub mod WholeLaws

@@ -1,0 +1,55 @@
+-- How control rules and triggers are read, branch by branch.
+use Rattle.std.proofs.Common.{◌≡◌, ℕ, ◌≤◌, true, false, List, [], ◌∷◌, ◌++◌, Ok, refl, ◌∙◌}
+use Rattle.flow_syntax.specs.declared.rule.Chain.{Chain}
+use Rattle.flow_syntax.specs.declared.rule.Item.{Item}
+use Rattle.flow_syntax.specs.declared.token.Token.{Token}
+use Rattle.grammar.specs.Reading.{◌>>=◌}
+use Rattle.grammar.specs.Texts.{Symbol, Then}
+use Rattle.spec_grammar.proofs.Unrolled.{reads_at, one_at, bind_bind, reads_more, many_turn}
+use Rattle.spec_grammar.specs.Control.{chain_rule, chains_rule, make_chain, node_rule, plain_item}
+use Rattle.spec_grammar.specs.Parts.{constructor_name}
+use Rattle.spec_grammar.specs.Patterns.{application_of}
+use Rattle.spec_grammar.specs.Reading.{reads, reads_as}
+use Rattle.spec_grammar.specs.Symbols.{AChain, AControlRule, AHead, AnItem, ATrigger, PatternArguments}
+use Rattle.spec_grammar.specs.declared.kind.Kind.{Kind}
+use Rattle.spec_grammar.specs.declared.kind.Kind.TheVariants as kinds
+use Rattle.parse_patterns.proofs.PatternLaws.{starts}
+use Rattle.parse_patterns.specs.Parts.{behind, second}
+use Rattle.parse_patterns.specs.Rules.{chains_rule_of, forward_of, forward_trigger, node_item, node_item_of, node_rule_of, other_of, other_trigger, plain_item_at}
+
+abbrev pub plain_items : List Kind
+plain_items = kinds.Entry ∷ kinds.Exit ∷ kinds.Start ∷ kinds.End ∷ kinds.This ∷ kinds.Identifier ∷ []
+
+pub item_plain : (l : ℕ) (ts : List Token) → l ≤ 256 → starts plain_items ts ≡ true → reads l AnItem ts ≡ reads_as l plain_item plain_item_at ts
+item_plain l ts h b = reads_at l AnItem ts h ∙ rw b (simp bind_bind)
+
+pub item_node : (l : ℕ) (ts : List Token) → l ≤ 256 → starts plain_items ts ≡ false → reads l AnItem ts ≡ reads_as l node_item node_item_of ts
+item_node l ts h b = reads_at l AnItem ts h ∙ rw b (simp bind_bind)
+
+pub chain_at : (l : ℕ) (ts : List Token) → l ≤ 256 → reads l AChain ts ≡ reads_as l chain_rule make_chain ts
+chain_at l ts h = reads_at l AChain ts h
+
+pub head_at : (l : ℕ) (ts : List Token) → l ≤ 256 → reads l AHead ts ≡ reads_as l (Then constructor_name (Symbol PatternArguments)) (λ x. application_of x.0 x.1) ts
+head_at l ts h = reads_at l AHead ts h
+
+pub rule_node : (l : ℕ) (ts : List Token) → l ≤ 256 → starts (kinds.Node ∷ []) ts ≡ true → reads l AControlRule ts ≡ reads_as l node_rule node_rule_of ts
+rule_node l ts h b = reads_at l AControlRule ts h ∙ rw b (simp bind_bind)
+
+pub rule_chains : (l : ℕ) (ts : List Token) → l ≤ 256 → starts (kinds.Node ∷ []) ts ≡ false → reads l AControlRule ts ≡ reads_as l chains_rule chains_rule_of ts
+rule_chains l ts h b = reads_at l AControlRule ts h ∙ rw b (simp bind_bind)
+
+pub trigger_forward : (l : ℕ) (ts : List Token) → l ≤ 256 → starts (kinds.Prev ∷ []) ts ≡ true → reads l ATrigger ts ≡ reads_as l forward_trigger forward_of ts
+trigger_forward l ts h b = reads_at l ATrigger ts h ∙ rw b (simp bind_bind)
+
+pub trigger_other : (l : ℕ) (ts : List Token) → l ≤ 256 → starts (kinds.Prev ∷ []) ts ≡ false → reads l ATrigger ts ≡ reads_as l other_trigger other_of ts
+trigger_other l ts h b = reads_at l ATrigger ts h ∙ rw b (simp bind_bind)
+
+-- ** further items and chains
+
+pub more_items : (l : ℕ) (ys : List Item) (ts : List Token) → starts (kinds.Arrow ∷ []) ts ≡ true
+    → reads_more l (behind kinds.Arrow AnItem) second ys ts ≡ (one_at l kinds.Arrow ts >>= λ t. reads l AnItem t.1 >>= λ x. reads_more l (behind kinds.Arrow AnItem) second (ys ++ x.0 ∷ []) x.1)
+more_items l ys ts h = many_turn (behind kinds.Arrow AnItem) refl refl refl second l ys ts h ∙ simp bind_bind
+
+pub more_chains : (l : ℕ) (ys : List Chain) (ts : List Token) → starts (kinds.Comma ∷ []) ts ≡ true
+    → reads_more l (behind kinds.Comma AChain) second ys ts ≡ (one_at l kinds.Comma ts >>= λ t. reads l AChain t.1 >>= λ x. reads_more l (behind kinds.Comma AChain) second (ys ++ x.0 ∷ []) x.1)
+more_chains l ys ts h = many_turn (behind kinds.Comma AChain) refl refl refl second l ys ts h ∙ simp bind_bind

@@ -1,0 +1,5 @@
+pub mod KindLaws
+pub mod ListLaws
+pub mod SortLaws
+pub mod TypeLaws
+pub mod TableLaws

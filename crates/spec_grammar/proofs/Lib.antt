@@ -1,0 +1,4 @@
+pub mod Checks
+pub mod Samples
+pub mod Unrolled
+pub mod Wholes

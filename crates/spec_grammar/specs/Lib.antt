@@ -1,0 +1,16 @@
+pub mod Choice
+pub mod Control
+pub mod Expressions
+pub mod Kinds
+pub mod Laws
+pub mod Parts
+pub mod Patterns
+pub mod Primaries
+pub mod Reading
+pub mod Rules
+pub mod Signatures
+pub mod Symbols
+pub mod Syntax
+pub mod Tables
+pub mod Types
+pub mod Whole

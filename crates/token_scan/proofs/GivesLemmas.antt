@@ -1,0 +1,27 @@
+-- What fails in a part fails in the whole.
+use Rattle.std.proofs.Common.{◌≡◌, ℕ, ◌<◌, List, Result, Ok, Err, refl, sym, ap, ◌∙◌}
+use Rattle.flow_syntax.specs.declared.token.Token.{Token}
+use Rattle.grammar.specs.Reading.{◌>>=◌}
+use Rattle.grammar.specs.declared.Cause.{Cause}
+use Rattle.spec_grammar.proofs.Unrolled.{reads_deep}
+use Rattle.spec_grammar.specs.Choice.{begins}
+use Rattle.spec_grammar.specs.Reading.{reads}
+use Rattle.spec_grammar.specs.Symbols.{Nonterminal}
+use Rattle.token_scan.specs.Gives.{Fails, IsTooDeep}
+use Rattle.token_scan.specs.declared.scan.Refusal.{Refusal}
+use Rattle.token_scan.specs.declared.scan.Refusal.TheVariants as refusals
+
+-- where the whole is the part and what is made of it
+pub fails_in : {X Y : Type 0} (r : Refusal) (part : Result X (Cause × List Token)) (f : X → Result Y (Cause × List Token)) (whole : Result Y (Cause × List Token)) → whole ≡ (part >>= f) → Fails r part → Fails r whole
+fails_in (refusals.Fault cause rest) part f whole e h = e ∙ ap (λ o. o >>= f) h
+fails_in refusals.NoMemory part f whole e h = tt
+
+-- where a fault of the part is one of the whole
+pub fails_by : {X Y : Type 0} (r : Refusal) (part : Result X (Cause × List Token)) (whole : Result Y (Cause × List Token)) → ((e : Cause × List Token) → part ≡ Err e → whole ≡ Err e) → Fails r part → Fails r whole
+fails_by (refusals.Fault cause rest) part whole step h = step (cause, rest.now) h
+fails_by refusals.NoMemory part whole step h = tt
+
+-- a symbol that is nested too deep
+pub deep_fails : (r : Refusal) (l : ℕ) (i : Nonterminal) (ts : List Token) → 256 < l → IsTooDeep r ts (begins i) → Fails r (reads l i ts)
+deep_fails (refusals.Fault cause rest) l i ts h d = rw (d.0, d.1) (reads_deep l i ts h)
+deep_fails refusals.NoMemory l i ts h d = tt
