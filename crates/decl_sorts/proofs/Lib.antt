@@ -1,0 +1,6 @@
+pub mod Counting
+pub mod Laws
+pub mod Layers
+pub mod Meeting
+pub mod Repeats
+pub mod Whole

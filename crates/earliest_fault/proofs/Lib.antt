@@ -1,0 +1,2 @@
+pub mod GathersLaws
+pub mod ListLaws

@@ -1,0 +1,151 @@
+-- The faults of an expression, from those of its own and those of its parts, and what is noted of parts in turn.
+use Rattle.std.proofs.Common.{◌≡◌, ℕ, List, [], ◌∷◌, ◌++◌, length, map, sym, ap, subst, ◌∙◌, inl, inr, Vec, Global}
+use Rattle.std.specs.Prelude.{◌⊎◌, Contains, if◌then◌else◌}
+use Rattle.std.proofs.Math.ListN.{set}
+use Rattle.std.proofs.lemmas.List.{map-append}
+use Rattle.std.proofs.lemmas.List.Elements.{Contains-append_left, Contains-append_right, Contains-append_cases, Contains-push}
+use Rattle.flow_syntax.specs.declared.expr.Expr.{Expr}
+use Rattle.flow_syntax.specs.declared.fault.SpecFaultKind.{SpecFaultKind}
+use Rattle.flow_syntax.specs.declared.spec.Spec.{Spec}
+use Rattle.flow_syntax.specs.declared.types.ExprType.{ExprType}
+use Rattle.flow_syntax.specs.Expressions.{expr_layer}
+use Rattle.flow_syntax.specs.Scopes.{Scope}
+use Rattle.flow_syntax.specs.Telling.{Telling, hidden, is_well_named, form_telling, told, told_parts}
+use Rattle.flow_syntax.specs.Types.{Typing, truth, typing_of}
+use Rattle.flow_syntax.specs.Wants.{Want}
+use Rattle.flow_syntax.specs.ExprPlaces.{Place, place, parts_of}
+use Rattle.flow_syntax.specs.ExprFaults.{FaultsWithin, own, inner, own_telling}
+use Rattle.earliest_fault.specs.Earliest.{Gathers}
+use Rattle.expr_types.specs.Listing.{AreListed, listed_type}
+use Rattle.earliest_fault.proofs.GathersLaws.{Found, Gathers-then, Gathers-same, Gathers-none}
+use Rattle.earliest_fault.proofs.ListLaws.{in_none, in_one}
+use Rattle.expr_types.proofs.Clean.{told_out, well_named_parts}
+use Rattle.expr_sorts.specs.Own.{OwnFaults, WholeHas, PartsHave}
+use Rattle.expr_sorts.specs.declared.notes.Notes.{Notes}
+use Rattle.expr_sorts.specs.Checked.{IsChecked, IsCheckedApart, HasCheckedParts}
+use Rattle.expr_sorts.specs.Noted.{IsNoted, AreNoted, noted_types}
+use Rattle.expr_sorts.proofs.Listed.{Lists-none, Lists-then, Lists-behind, Lists-whole, from_nothing}
+
+module _ (spec : Spec) (at : ℕ) (kind : SpecFaultKind) where
+  among_parts : (ps : List Place) → PartsHave spec ps at kind → (q : Place) × Contains ps q × FaultsWithin spec at kind q
+  among_parts [] h = absurd h
+  among_parts (p ∷ ps) (inl h) = (p, Contains-append_left (p ∷ []) ps p (Contains-push [] p), h)
+  among_parts (p ∷ ps) (inr h) = let r : (q : Place) × Contains ps q × FaultsWithin spec at kind q = among_parts ps h in (r.0, Contains-append_right (p ∷ []) ps r.0 r.1, r.2)
+
+  in_parts : (ps : List Place) (q : Place) → Contains ps q → FaultsWithin spec at kind q → PartsHave spec ps at kind
+  in_parts [] q h w = absurd (in_none q h)
+  in_parts (p ∷ ps) q h w = elim (Contains-append_cases (p ∷ []) ps q h) [
+    | inl a ↦ inl (subst (λ (x : Place). FaultsWithin spec at kind x) (sym (in_one p q a)) w)
+    | inr b ↦ inr (in_parts ps q b w)
+  ]
+
+  whole_forth : (p : Place) → PartsHave spec (parts_of spec p) at kind ⊎ OwnFaults spec p at kind → FaultsWithin spec at kind p
+  whole_forth p (inl h) = let r : (q : Place) × Contains (parts_of spec p) q × FaultsWithin spec at kind q = among_parts (parts_of spec p) h in inner p r.0 r.1 r.2
+  whole_forth p (inr h) = own p h.0 h.1
+
+  whole_back : (p : Place) → FaultsWithin spec at kind p → PartsHave spec (parts_of spec p) at kind ⊎ OwnFaults spec p at kind
+  whole_back _ (own p here h) = inr (here, h)
+  whole_back _ (inner p q among w) = inl (in_parts (parts_of spec p) q among w)
+
+  split_parts : (ps qs : List Place) → PartsHave spec (ps ++ qs) at kind → PartsHave spec ps at kind ⊎ PartsHave spec qs at kind
+  split_parts [] qs h = inr h
+  split_parts (p ∷ ps) qs (inl h) = inl (inl h)
+  split_parts (p ∷ ps) qs (inr h) = elim (split_parts ps qs h) [ inl a ↦ inl (inr a) | inr b ↦ inr b ]
+
+  join_parts : (ps qs : List Place) → PartsHave spec ps at kind ⊎ PartsHave spec qs at kind → PartsHave spec (ps ++ qs) at kind
+  join_parts [] qs (inl h) = absurd h
+  join_parts [] qs (inr h) = h
+  join_parts (p ∷ ps) qs (inl (inl h)) = inl h
+  join_parts (p ∷ ps) qs (inl (inr h)) = inr (join_parts ps qs (inl h))
+  join_parts (p ∷ ps) qs (inr h) = inr (join_parts ps qs (inr h))
+
+module _ (spec : Spec) where
+  -- no parts, no faults of them
+  pub no_parts : (old : Found) → Gathers old old (PartsHave spec [])
+  no_parts old = Gathers-none old (λ place kind h. h)
+
+  module _ {o m n : Found} where
+    -- the faults of parts and then the own ones
+    pub whole_gathered : (p : Place) → Gathers o m (PartsHave spec (parts_of spec p)) → Gathers m n (OwnFaults spec p) → Gathers o n (WholeHas spec p)
+    whole_gathered p g h = Gathers-same (Gathers-then g h) (λ at kind. (whole_forth spec at kind p, whole_back spec at kind p))
+
+    -- the faults of a part and then those of the parts behind it
+    pub part_then : (p : Place) (ps : List Place) → Gathers o m (WholeHas spec p) → Gathers m n (PartsHave spec ps) → Gathers o n (PartsHave spec (p ∷ ps))
+    part_then p ps g h = Gathers-same (Gathers-then g h) (λ at kind. (λ x. x, λ x. x))
+
+    -- the faults of the parts behind a part and then those of the part
+    pub part_last : (p : Place) (ps : List Place) → Gathers o m (PartsHave spec ps) → Gathers m n (WholeHas spec p) → Gathers o n (PartsHave spec (p ∷ ps))
+    part_last p ps g h = Gathers-same (Gathers-then g h) (λ at kind. (λ x. elim x [ inl a ↦ inr a | inr b ↦ inl b ], λ x. elim x [ inl a ↦ inr a | inr b ↦ inl b ]))
+
+    -- the faults of two lists of parts
+    pub parts_then : (ps qs : List Place) → Gathers o m (PartsHave spec ps) → Gathers m n (PartsHave spec qs) → Gathers o n (PartsHave spec (ps ++ qs))
+    parts_then ps qs g h = Gathers-same (Gathers-then g h) (λ at kind. (join_parts spec at kind ps qs, split_parts spec at kind ps qs))
+
+  pub one_part : {o n : Found} (p : Place) → Gathers o n (WholeHas spec p) → Gathers o n (PartsHave spec (p ∷ []))
+  one_part p g = part_then p [] g (no_parts _)
+
+  -- nothing is noted of no parts
+  pub none_noted : (o : Notes) → AreNoted spec [] o o
+  none_noted o = record { gathers = no_parts o.earliest; lists = Lists-none spec (noted_types o) }
+
+  module _ {o n : Notes} where
+    -- a part alone
+    pub part_noted : (p : Place) → IsNoted spec p o n → AreNoted spec (p ∷ []) o n
+    part_noted p h = record { gathers = one_part p h.gathers; lists = h.lists }
+
+  module _ {o m n : Notes} where
+    -- parts and then those behind them
+    pub parts_noted : (ps qs : List Place) → AreNoted spec ps o m → AreNoted spec qs m n → AreNoted spec (ps ++ qs) o n
+    parts_noted ps qs g h = record { gathers = parts_then ps qs g.gathers h.gathers; lists = Lists-then spec ps qs g.lists h.lists }
+
+    -- a part and then those behind it
+    pub part_noted_then : (p : Place) (ps : List Place) → IsNoted spec p o m → AreNoted spec ps m n → AreNoted spec (p ∷ ps) o n
+    part_noted_then p ps g h = parts_noted (p ∷ []) ps (part_noted p g) h
+
+    -- one part more at the end
+    pub parts_push : (ps : List Place) (p : Place) → AreNoted spec ps o m → IsNoted spec p m n → AreNoted spec (ps ++ p ∷ []) o n
+    parts_push ps p g h = parts_noted ps (p ∷ []) g (part_noted p h)
+
+  -- a part that is looked at apart and then the one that stands before it
+  pub part_ahead : {o m k n : Notes} {t : Telling} (f p : Place) (apart : List Typing) → IsCheckedApart spec f o m apart t → IsNoted spec p m k → n.earliest ≡ k.earliest → noted_types n ≡ noted_types k ++ apart → AreNoted spec (p ∷ f ∷ []) o n
+  part_ahead {o} {m} {k} {n} f p apart g h earliest types = record {
+    gathers = part_last p (f ∷ []) (one_part f g.gathers) (subst (λ (x : Found). Gathers m.earliest x (WholeHas spec p)) (sym earliest) h.gathers);
+    lists = Lists-behind spec (p ∷ []) (f ∷ []) apart g.listed g.kept h.lists types;
+  }
+
+  -- a part is looked at, and its types are listed from nothing
+  pub checked_apart : {o a m n : Notes} {t : Telling} (p : Place) (apart : List Typing) → a.earliest ≡ o.earliest → noted_types a ≡ [] → IsChecked spec p a m t → n.earliest ≡ m.earliest → noted_types n ≡ noted_types o → apart ≡ noted_types m
+      → IsCheckedApart spec p o n apart t
+  checked_apart {o} {a} {m} {n} p apart start nothing h finish kept is = record {
+    gathers = subst (λ (f : Found). Gathers o.earliest f (WholeHas spec p)) (sym finish) (subst (λ (f : Found). Gathers f m.earliest (WholeHas spec p)) start h.noted.gathers);
+    kept = kept;
+    listed = subst (λ (ts : List Typing). AreListed spec (p ∷ []) ts) (sym is) (from_nothing spec (p ∷ []) nothing h.noted.lists);
+    tells = h.tells;
+  }
+
+-- the types of a list, of another one that is the same, and of one behind another
+pub same_types : (v w : Vec ExprType Global) → v ≡ w → map typing_of v.items ≡ map typing_of w.items
+same_types v w e = ap (λ (x : Vec ExprType Global). map typing_of x.items) e
+
+pub types_behind : (ts us vs : List ExprType) → ts ≡ us ++ vs → map typing_of ts ≡ map typing_of us ++ map typing_of vs
+types_behind ts us vs e = ap (map typing_of) e ∙ map-append typing_of us vs
+
+-- what is told outside of an expression, where its form tells this
+pub told_outside : (spec : Spec) (s : Scope) (w : Want) (e : Expr) (t answer : Telling) → t ≡ own_telling spec (place s w e) → answer ≡ (if is_well_named spec s (expr_layer e) then t else hidden) → answer ≡ told spec s e
+told_outside spec s w e t answer tells is =
+    is ∙ ap (λ x. if is_well_named spec s (expr_layer e) then x else hidden) tells
+    ∙ ap (λ b. if b then form_telling spec s (told_parts spec s (expr_layer e)) else hidden) (sym (well_named_parts spec s (expr_layer e))) ∙ sym (told_out spec s e)
+
+-- an expression is checked, where its parts are, its own faults are noted and its own type is listed before those of the parts
+pub whole_checked : (spec : Spec) (s : Scope) (w : Want) (e : Expr) {o a m n : Notes} {t answer : Telling} (typing : Typing) (at : ℕ) → at ≡ length (noted_types o) → noted_types a ≡ noted_types o ++ truth ∷ [] → a.earliest ≡ o.earliest
+    → HasCheckedParts spec (place s w e) a m t → Gathers m.earliest n.earliest (OwnFaults spec (place s w e)) → answer ≡ (if is_well_named spec s (expr_layer e) then t else hidden)
+    → typing ≡ listed_type w answer → noted_types n ≡ set (noted_types m) at typing → IsChecked spec (place s w e) o n answer
+whole_checked spec s w e {o} {a} {m} {n} {t} {answer} typing at here held earliest parts faults is listed types =
+    let tells : answer ≡ told spec s e = told_outside spec s w e t answer parts.tells is in
+    record {
+      noted = record {
+        gathers = whole_gathered spec (place s w e) (subst (λ (f : Found). Gathers f m.earliest (PartsHave spec (parts_of spec (place s w e)))) earliest parts.noted.gathers) faults;
+        lists = Lists-whole spec (place s w e) truth typing at here held parts.noted.lists (listed ∙ ap (listed_type w) tells) types;
+      };
+      tells = tells;
+    }

@@ -1,0 +1,17 @@
+use Rattle.expr_sorts.proofs.Places.{condition_gathered, condition_listed, no_condition, no_condition_listed, placed}
+use Rattle.expr_sorts.proofs.Forms.{none_left}
+use Rattle.expr_sorts.proofs.rules.check_message.Goals as goal
+
+pub returns-in_default-clause-gathers : goal.returns-in_default-clause-gathers
+returns-in_default-clause-gathers c = no_condition c.args.cx.now.spec.now c.args.message.now _ (none_left _ c.in_default.not-Some)
+
+pub returns-in_default-clause-lists : goal.returns-in_default-clause-lists
+returns-in_default-clause-lists c = no_condition_listed c.args.cx.now.spec.now c.args.message.now _ (none_left _ c.in_default.not-Some)
+
+pub returns-clause-gathers : goal.returns-clause-gathers
+returns-clause-gathers c =
+    condition_gathered c.args.cx.now.spec.now c.args.message.now _ c.in-Some.is (placed _ _ _ _ _ c.in_ok-whole.ensures c.truth.ensures c.in_ok-check_in.ensures).gathers
+
+pub returns-clause-lists : goal.returns-clause-lists
+returns-clause-lists c =
+    condition_listed c.args.cx.now.spec.now c.args.message.now _ c.in-Some.is (placed _ _ _ _ _ c.in_ok-whole.ensures c.truth.ensures c.in_ok-check_in.ensures).lists

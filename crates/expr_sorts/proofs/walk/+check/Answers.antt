@@ -1,0 +1,98 @@
+use Rattle.std.proofs.Common.{None, Some, map, refl, sym, ap, ◌∙◌}
+use Rattle.std.proofs.lemmas.Result.{IfOk-weaker}
+use Rattle.flow_syntax.specs.declared.expr.ExprKind.TheVariants as exprs
+use Rattle.flow_syntax.specs.Scopes.{with_variable}
+use Rattle.flow_syntax.specs.Types.{typing_of}
+use Rattle.expr_sorts.specs.Plans.{argument_want}
+use Rattle.expr_sorts.specs.Scoping.{scope_of}
+use Rattle.expr_sorts.specs.Views.{telling_of, want_of}
+use Rattle.expr_sorts.proofs.Arguments.{arguments_next, each_next}
+use Rattle.expr_sorts.proofs.Finding.{got}
+use Rattle.expr_sorts.proofs.Forms.{checked_bind, checked_choose, checked_leaf, checked_map_of, checked_member, checked_three, checked_two, choose_ahead, condition_in, leaf_name, leaf_value, none_left, three_of, two_of}
+use Rattle.expr_sorts.proofs.Parts.{checked_apart, none_noted, same_types, types_behind, whole_checked}
+use Rattle.expr_sorts.proofs.walk.+check.Goals as goal
+use Rattle.expr_sorts.proofs.walk.+check.Goals.{check_choose-in-Some+in_ok-check_third, check_choose-in_default-condition}
+
+pub check-returns : goal.check-returns
+check-returns t c =
+    whole_checked c.args.cx.now.spec.now (scope_of c.args.scope.now) (want_of c.args.want.now) c.args.expr.now _ _ c.in_ok-at.ensures.at c.in_ok-at.ensures.held refl c.in_ok-told.ensures c.note_own.ensures c.outside-told.ensures
+    c.in_ok-typing.ensures c.set_type.ensures
+
+pub check_bind-returns : goal.check_bind-returns
+check_bind-returns t c =
+    let is = c.in-Bind.is ∙ ap (λ a. exprs.Bind c.in-Bind.name a c.in-Bind.body) (sym c.get.ensures) ∙ ap (exprs.Bind c.in-Bind.name c.get.result.now) (sym c.get-2.ensures) in
+    checked_bind c.args.cx.now.spec.now (scope_of c.args.scope.now) (want_of c.args.want.now) c.args.expr.now c.in-Bind.name _ _ _ is c.in_ok-told.ensures
+    (c.in_ok-inner.ensures ∙ ap (with_variable (scope_of c.args.scope.now) c.in-Bind.name) c.flat_sort.ensures) c.in_ok-check_second.ensures
+
+pub check_choose-returns : goal.check_choose-returns
+check_choose-returns t c =
+    let is = c.in-Choose.is ∙ ap (λ a. exprs.Choose a c.in-Choose.name c.in-Choose.set c.in-Choose.condition) (sym c.get-2.ensures) ∙ ap (λ a. exprs.Choose c.get-2.result.now c.in-Choose.name a c.in-Choose.condition) (sym c.get.ensures) in
+    let scoped = c.in_ok-inner.ensures ∙ ap (with_variable (scope_of c.args.scope.now) c.in-Choose.name) c.set_sort.ensures in
+    let ahead = choose_ahead c.args.cx.now.spec.now (scope_of c.args.scope.now) (want_of c.args.want.now) c.args.expr.now {n = record { earliest = c.check_second.new.notes.earliest; types = c.append.new.self }} _ c.in-Choose.name _ _ _ _ is
+    c.in_ok-told.ensures scoped c.in_ok-check_second.ensures refl (types_behind _ _ _ c.in_ok-append.ensures.items) in
+    elim c.match-condition.branch [
+      | check_choose-in-Some+in_ok-check_third w ↦
+          let there = is ∙ ap (exprs.Choose c.get-2.result.now c.in-Choose.name c.get.result.now) (w.in-Some.is ∙ ap Some (sym w.get-in-Some.ensures)) in
+          rw w.notes-is
+          (checked_choose c.args.cx.now.spec.now (scope_of c.args.scope.now) (want_of c.args.want.now) c.args.expr.now _ c.in-Choose.name _ (Some w.get-in-Some.result.now) there ahead
+          (condition_in c.args.cx.now.spec.now (scope_of c.args.scope.now) (want_of c.args.want.now) c.args.expr.now _ _ c.in-Choose.name _ _ _ there c.in_ok-told.ensures.tells scoped w.in_ok-check_third.ensures))
+      | check_choose-in_default-condition w ↦
+          let there = is ∙ ap (exprs.Choose c.get-2.result.now c.in-Choose.name c.get.result.now) (none_left _ w.in_default-condition.not-Some) in
+          rw w.notes-is
+          (checked_choose c.args.cx.now.spec.now (scope_of c.args.scope.now) (want_of c.args.want.now) c.args.expr.now _ c.in-Choose.name _ None there ahead (none_noted c.args.cx.now.spec.now _))
+    ]
+
+pub check_member-returns : goal.check_member-returns
+check_member-returns t c =
+    let is = c.in-Member.is ∙ ap (λ a. exprs.Member a c.in-Member.set) (sym c.get-2.ensures) ∙ ap (exprs.Member c.get-2.result.now) (sym c.get.ensures) in
+    checked_member c.args.cx.now.spec.now (scope_of c.args.scope.now) (want_of c.args.want.now) c.args.expr.now _ _ _ is c.in_ok-told.ensures c.in_ok-check_second.ensures refl (types_behind _ _ _ c.in_ok-append.ensures.items)
+
+pub check_apart-returns : goal.check_apart-returns
+check_apart-returns t c =
+    checked_apart c.args.cx.now.spec.now _ _ refl (same_types _ _ c.replace-before.ensures.after ∙ ap (map typing_of) c.new.ensures.items) c.in_ok-told.ensures refl (same_types _ _ (c.replace-apart.ensures.after ∙ c.replace-before.ensures.value))
+    (same_types _ _ c.replace-apart.ensures.value)
+
+pub check_arguments-loop-at-init : goal.check_arguments-loop-at-init
+check_arguments-loop-at-init t c = none_noted c.args.cx.now.spec.now c.args.notes.now
+
+pub check_each-loop-expr-init : goal.check_each-loop-expr-init
+check_each-loop-expr-init t c = none_noted c.args.cx.now.spec.now c.args.notes.now
+
+pub check_parts-returns-in-Top : goal.check_parts-returns-in-Top
+check_parts-returns-in-Top t c =
+    IfOk-weaker _ _ _ (λ answer is. checked_leaf c.args.cx.now.spec.now (scope_of c.args.scope.now) (want_of c.args.want.now) c.args.expr.now (telling_of answer) (leaf_name c.args.expr.now.kind c.in-Top.is) is) c.tell_leaf.ensures
+
+pub check_parts-returns-in-Int : goal.check_parts-returns-in-Int
+check_parts-returns-in-Int t c =
+    IfOk-weaker _ _ _ (λ answer is. checked_leaf c.args.cx.now.spec.now (scope_of c.args.scope.now) (want_of c.args.want.now) c.args.expr.now (telling_of answer) (leaf_value c.args.expr.now.kind c.in-Int.is) is) c.tell_leaf-in-Int.ensures
+
+pub check_parts-returns-in_ok-check_each-in-MapOf-2 :
+    goal.check_parts-returns-in_ok-check_each-in-MapOf-2
+check_parts-returns-in_ok-check_each-in-MapOf-2 t c =
+    let is = c.in-MapOf.is ∙ ap (λ ks. exprs.MapOf ks c.in-MapOf.values) (sym c.as_slice-in-MapOf.ensures) ∙ ap (exprs.MapOf c.as_slice-in-MapOf.result.now) (sym c.as_slice-in-MapOf-2.ensures) in
+    checked_map_of c.args.cx.now.spec.now (scope_of c.args.scope.now) (want_of c.args.want.now) c.args.expr.now _ _ _ _ is c.in_ok-wanted-in-MapOf.ensures c.in_ok-check_each-in-MapOf.ensures c.in_ok-wanted-in-MapOf-2.ensures
+    c.in_ok-check_each-in-MapOf-2.ensures
+
+pub check_parts-returns-in_ok-check_third-in-Update :
+    goal.check_parts-returns-in_ok-check_third-in-Update
+check_parts-returns-in_ok-check_third-in-Update t c =
+    IfOk-weaker _ _ _
+    (λ answer is. checked_three c.args.cx.now.spec.now (scope_of c.args.scope.now) (want_of c.args.want.now) c.args.expr.now _ _ _ (telling_of answer)
+    (three_of c.args.expr.now.kind _ _ _ _ _ _ c.get.ensures c.get-in-Update.ensures c.get-in-Update-2.ensures c.in-Update.is) c.in_ok-first-in-Update.ensures c.in_ok-second-in-Update.ensures c.in_ok-check_third-in-Update.ensures is)
+    c.tell_two.ensures
+
+pub check_parts-returns-in_ok-second-in-Both : goal.check_parts-returns-in_ok-second-in-Both
+check_parts-returns-in_ok-second-in-Both t c =
+    IfOk-weaker _ _ _
+    (λ answer is. checked_two c.args.cx.now.spec.now (scope_of c.args.scope.now) (want_of c.args.want.now) c.args.expr.now _ _ (telling_of answer)
+    (two_of c.args.expr.now.kind _ _ _ _ c.get-in-Both.ensures c.get-in-Both-2.ensures c.in-Both.is) c.in_ok-first-in-Both.ensures c.in_ok-second-in-Both.ensures is)
+    c.tell_two-in-Both.ensures
+
+pub check_arguments-loop-at-preserved : goal.check_arguments-loop-at-preserved
+check_arguments-loop-at-preserved t c =
+    arguments_next c.args.cx.now.spec.now (scope_of c.args.scope.now) c.args.declared.now c.args.given.now c.loop-at.at c.index-given-at.result _ c.loop-at-test.true c.index-given-at.is
+    (c.in_ok-wanted.ensures ∙ ap argument_want (got _ _ _ c.get.ensures.lookup.0 c.get.ensures.lookup.1)) c.loop-at.invariant c.in_ok-check.ensures
+
+pub check_each-loop-expr-preserved : goal.check_each-loop-expr-preserved
+check_each-loop-expr-preserved t c =
+    each_next c.args.cx.now.spec.now (scope_of c.args.scope.now) (want_of c.args.want.now) c.args.exprs.now c.loop-expr.expr-index c.expr-item.result c.loop-expr-test.true c.expr-item.is c.loop-expr.invariant c.in_ok-check.ensures

@@ -1,0 +1,7 @@
+pub mod Checked
+pub mod Naming
+pub mod Noted
+pub mod Own
+pub mod Plans
+pub mod Scoping
+pub mod Views

@@ -1,0 +1,16 @@
+//! The faults of the expressions of a specification, and what expressions tell of their types.
+#![tactic(auto)]
+
+mod form;
+mod names;
+mod notes;
+mod own;
+mod rules;
+mod scope;
+mod shape;
+mod telling;
+mod types;
+mod walk;
+mod want;
+
+pub use rules::check_expressions;

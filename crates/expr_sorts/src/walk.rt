@@ -1,0 +1,360 @@
+//! The walk over an expression: notes each fault in it, lists the type of each part, and answers what is told of its own.
+ghost use Rattle.std.specs.Prelude.{◌≡◌, IfOk, OnOk, map};
+ghost use Rattle.std.specs.Option.{option_copied, option_map};
+ghost use Rattle.flow_syntax.specs.declared.expr.ExprKind.{out-ExprKind};
+ghost use Rattle.flow_syntax.specs.Scopes.{with_variable};
+ghost use Rattle.flow_syntax.specs.Telling.{function_named};
+ghost use Rattle.flow_syntax.specs.Types.{sort_of, typing_of};
+ghost use Rattle.flow_syntax.specs.ExprPlaces.{arguments, declared_arguments, place};
+ghost use Rattle.spec_names.specs.Tables.{AreNames};
+ghost use Rattle.expr_sorts.specs.Checked.{HasCheckedParts, IsBind, IsChecked, IsCheckedApart, IsChoose, IsMember};
+ghost use Rattle.expr_sorts.specs.Noted.{AreNoted, IsNoted};
+ghost use Rattle.expr_sorts.specs.Plans.{argument_want, first_part_want, outside, second_part_want, third_part_want};
+ghost use Rattle.expr_sorts.specs.Scoping.{scope_of};
+ghost use Rattle.expr_sorts.specs.Views.{sort_in, telling_of, want_of};
+
+use crate::form::{
+    first_part_want, second_part_want, tell_leaf, tell_one, tell_two, third_part_want,
+};
+use crate::names::{Context, function_named, result_telling};
+use crate::notes::{Notes, hold_place, listed_type, set_type};
+use crate::own::{is_well_named, note_own};
+use crate::scope::{Scope, Variable};
+use crate::telling::{Telling, flat_sort, set_sort};
+use crate::types::{copy_named, copy_sort};
+use crate::want::{Want, element_want, free, key_want, value_want};
+use flow_syntax::{ElemSort, Expr, ExprKind, ExprType, LatticeType, Named};
+use flow_term::Text;
+use std::alloc::{AllocError, Global};
+use std::mem;
+
+/// What those that need the type of an expression are told, where its form tells this.
+fn outside(cx: &Context<'_>, scope: &Scope<'_>, kind: &ExprKind, told: Telling) -> Telling
+    requires { AreNames cx.now.spec.now cx.now.names.now }
+    ensures { telling_of result ≡ outside cx.now.spec.now (scope_of scope.now) (out-ExprKind kind.now) (telling_of told) }
+{
+    if is_well_named(cx, scope, kind) {
+        told
+    } else {
+        Telling::Hidden
+    }
+}
+
+/// The lattices of the arguments of a function.
+fn declared_arguments<'a>(cx: &Context<'a>, name: &Text) -> &'a [Named]
+    requires { AreNames cx.now.spec.now cx.now.names.now }
+    ensures { result.now ≡ declared_arguments (function_named cx.now.spec.now name.now) }
+{
+    match function_named(cx, name) {
+        Some(function) => function.args.as_slice(),
+        None => &[],
+    }
+}
+
+/// What is wanted of an argument, of which this lattice is declared.
+fn argument_want(declared: Option<&Named>) -> Result<Want, AllocError>
+    ensures { IfOk result (λ w. want_of w ≡ argument_want (option_copied declared.entry)) }
+{
+    match declared {
+        Some(lattice) => {
+            let named = copy_named(lattice)?;
+            Ok(Want::Known(ExprType::Lattice(LatticeType::Table(named))))
+        }
+        None => Ok(free()),
+    }
+}
+
+/// A sort once more, if there is one.
+fn copy_known(alloc: Global, sort: Option<&ElemSort>) -> Result<Option<ElemSort>, AllocError>
+    ensures { IfOk result (λ s. option_map sort_of s ≡ sort_in sort.entry) }
+{
+    match sort {
+        Some(sort) => Ok(Some(copy_sort(alloc, sort)?)),
+        None => Ok(None),
+    }
+}
+
+/// The scope around, with one more variable.
+fn inner_scope<'a>(
+    alloc: Global,
+    scope: &'a Scope<'a>,
+    name: &'a Text,
+    sort: Option<&ElemSort>,
+) -> Result<Scope<'a>, AllocError>
+    ensures { IfOk result (λ inner. scope_of inner ≡ with_variable (scope_of scope.now) name.now (sort_in sort.entry)) }
+{
+    let sort = copy_known(alloc, sort)?;
+    Ok(Scope::Inner(scope, Variable { name, sort }))
+}
+
+/// Notes the faults of an expression and of its parts, lists their types, and answers what is told of its type.
+#[cycle(check)]
+pub fn check(
+    expr: &Expr,
+    cx: &Context<'_>,
+    scope: &Scope<'_>,
+    want: &Want,
+    notes: &mut Notes,
+) -> Result<Telling, AllocError>
+    requires { AreNames cx.now.spec.now cx.now.names.now }
+    ensures { IfOk result (λ t. IsChecked cx.now.spec.now (place (scope_of scope.now) (want_of want.now) expr.now) notes.old notes.new (telling_of t)) }
+{
+    let at = hold_place(&mut notes.types)?;
+    let told = check_parts(expr, cx, scope, want, notes)?;
+    note_own(cx, scope, want, expr, &told, &mut notes.earliest);
+    let told = outside(cx, scope, &expr.kind, told);
+    let typing = listed_type(cx.alloc, want, &told)?;
+    set_type(&mut notes.types, at, typing);
+    Ok(told)
+}
+
+/// Notes the faults of the parts of an expression, lists their types, and answers what its form tells of its type.
+#[cycle(check)]
+fn check_parts(
+    expr: &Expr,
+    cx: &Context<'_>,
+    scope: &Scope<'_>,
+    want: &Want,
+    notes: &mut Notes,
+) -> Result<Telling, AllocError>
+    requires { AreNames cx.now.spec.now cx.now.names.now }
+    ensures { IfOk result (λ t. HasCheckedParts cx.now.spec.now (place (scope_of scope.now) (want_of want.now) expr.now) notes.old notes.new (telling_of t)) }
+{
+    let kind = &expr.kind;
+    match kind {
+        ExprKind::Int(_) | ExprKind::Str(_) | ExprKind::Truth(_) | ExprKind::Bottom => {
+            tell_leaf(cx, scope, kind)
+        }
+        ExprKind::Top | ExprKind::Unreached | ExprKind::Ident(_) | ExprKind::Read(_, _) => {
+            tell_leaf(cx, scope, kind)
+        }
+        ExprKind::Call(name, given) => {
+            let declared = declared_arguments(cx, name);
+            check_arguments(given.as_slice(), cx, scope, declared, notes)?;
+            result_telling(cx, name)
+        }
+        ExprKind::SetOf(elements) => {
+            let wanted = element_want(cx.alloc, want)?;
+            check_each(elements.as_slice(), cx, scope, &wanted, notes)?;
+            Ok(Telling::Untold)
+        }
+        ExprKind::MapOf(keys, values) => {
+            let wanted = key_want(cx.alloc, want)?;
+            check_each(keys.as_slice(), cx, scope, &wanted, notes)?;
+            let wanted = value_want(cx.alloc, want)?;
+            check_each(values.as_slice(), cx, scope, &wanted, notes)?;
+            Ok(Telling::Untold)
+        }
+        ExprKind::MakeFlat(a)
+        | ExprKind::Fst(a)
+        | ExprKind::Snd(a)
+        | ExprKind::Minus(a)
+        | ExprKind::Not(a) => {
+            let told = check_first(a.get(), cx, scope, kind, want, notes)?;
+            tell_one(cx.alloc, kind, &told)
+        }
+        ExprKind::Both(a, b)
+        | ExprKind::Look(a, b)
+        | ExprKind::Set2(_, a, b)
+        | ExprKind::Arith(_, a, b)
+        | ExprKind::Compare(_, a, b)
+        | ExprKind::And(a, b)
+        | ExprKind::Or(a, b) => {
+            let first = check_first(a.get(), cx, scope, kind, want, notes)?;
+            let second = check_second(b.get(), cx, scope, kind, want, &first, notes)?;
+            tell_two(cx.alloc, kind, first, &second)
+        }
+        ExprKind::Update(a, b, c) | ExprKind::If(a, b, c) => {
+            let first = check_first(a.get(), cx, scope, kind, want, notes)?;
+            let second = check_second(b.get(), cx, scope, kind, want, &first, notes)?;
+            check_third(c.get(), cx, scope, kind, want, &first, notes)?;
+            tell_two(cx.alloc, kind, first, &second)
+        }
+        ExprKind::Member(_, _) => check_member(expr, cx, scope, want, notes),
+        ExprKind::Choose(_, _, _, _) => check_choose(expr, cx, scope, want, notes),
+        ExprKind::Bind(_, _, _) => check_bind(expr, cx, scope, want, notes),
+    }
+}
+
+/// Checks the part that is checked first.
+#[cycle(check)]
+fn check_first(
+    part: &Expr,
+    cx: &Context<'_>,
+    scope: &Scope<'_>,
+    kind: &ExprKind,
+    want: &Want,
+    notes: &mut Notes,
+) -> Result<Telling, AllocError>
+    requires { AreNames cx.now.spec.now cx.now.names.now }
+    ensures { IfOk result (λ t. IsChecked cx.now.spec.now (place (scope_of scope.now) (first_part_want (want_of want.now) (out-ExprKind kind.now)) part.now) notes.old notes.new (telling_of t)) }
+{
+    let wanted = first_part_want(cx.alloc, kind, want)?;
+    check(part, cx, scope, &wanted, notes)
+}
+
+/// Checks the part that is checked first but stands behind another one, and answers the types of it and its parts apart.
+#[cycle(check)]
+fn check_apart(
+    part: &Expr,
+    cx: &Context<'_>,
+    scope: &Scope<'_>,
+    kind: &ExprKind,
+    want: &Want,
+    notes: &mut Notes,
+) -> Result<(Telling, Vec<ExprType>), AllocError>
+    requires { AreNames cx.now.spec.now cx.now.names.now }
+    ensures { IfOk result (λ r. IsCheckedApart cx.now.spec.now (place (scope_of scope.now) (first_part_want (want_of want.now) (out-ExprKind kind.now)) part.now) notes.old notes.new (map typing_of r.1.items) (telling_of r.0)) }
+{
+    let before = mem::replace(&mut notes.types, Vec::new(cx.alloc));
+    let told = check_first(part, cx, scope, kind, want, notes)?;
+    let apart = mem::replace(&mut notes.types, before);
+    Ok((told, apart))
+}
+
+/// Checks the part that is checked second, where this is told of the first.
+#[cycle(check)]
+fn check_second(
+    part: &Expr,
+    cx: &Context<'_>,
+    scope: &Scope<'_>,
+    kind: &ExprKind,
+    want: &Want,
+    told: &Telling,
+    notes: &mut Notes,
+) -> Result<Telling, AllocError>
+    requires { AreNames cx.now.spec.now cx.now.names.now }
+    ensures { IfOk result (λ t. IsChecked cx.now.spec.now (place (scope_of scope.now) (second_part_want (want_of want.now) (telling_of told.now) (out-ExprKind kind.now)) part.now) notes.old notes.new (telling_of t)) }
+{
+    let wanted = second_part_want(cx.alloc, kind, want, told)?;
+    check(part, cx, scope, &wanted, notes)
+}
+
+/// Checks the part that is checked third, where this is told of the first.
+#[cycle(check)]
+fn check_third(
+    part: &Expr,
+    cx: &Context<'_>,
+    scope: &Scope<'_>,
+    kind: &ExprKind,
+    want: &Want,
+    told: &Telling,
+    notes: &mut Notes,
+) -> Result<(), AllocError>
+    requires { AreNames cx.now.spec.now cx.now.names.now }
+    ensures { OnOk result (IsNoted cx.now.spec.now (place (scope_of scope.now) (third_part_want (want_of want.now) (telling_of told.now) (out-ExprKind kind.now)) part.now) notes.old notes.new) }
+{
+    let wanted = third_part_want(cx.alloc, kind, want, told)?;
+    check(part, cx, scope, &wanted, notes)?;
+    Ok(())
+}
+
+/// Checks the parts of the question whether an element is in a set. What is wanted of the element is told of the set.
+#[cycle(check)]
+fn check_member(
+    expr: &Expr,
+    cx: &Context<'_>,
+    scope: &Scope<'_>,
+    want: &Want,
+    notes: &mut Notes,
+) -> Result<Telling, AllocError>
+    requires names { AreNames cx.now.spec.now cx.now.names.now }
+    requires form { IsMember expr.now }
+    ensures { IfOk result (λ t. HasCheckedParts cx.now.spec.now (place (scope_of scope.now) (want_of want.now) expr.now) notes.old notes.new (telling_of t)) }
+{
+    let kind = &expr.kind;
+    let ExprKind::Member(element, set) = kind else {
+        unreachable!()
+    };
+    let (told, mut apart) = check_apart(set.get(), cx, scope, kind, want, notes)?;
+    check_second(element.get(), cx, scope, kind, want, &told, notes)?;
+    notes.types.append(&mut apart)?;
+    Ok(Telling::Is(ExprType::Truth))
+}
+
+/// Checks the parts of a set that is chosen from another one. What is wanted of the element is told of the other set.
+#[cycle(check)]
+fn check_choose(
+    expr: &Expr,
+    cx: &Context<'_>,
+    scope: &Scope<'_>,
+    want: &Want,
+    notes: &mut Notes,
+) -> Result<Telling, AllocError>
+    requires names { AreNames cx.now.spec.now cx.now.names.now }
+    requires form { IsChoose expr.now }
+    ensures { IfOk result (λ t. HasCheckedParts cx.now.spec.now (place (scope_of scope.now) (want_of want.now) expr.now) notes.old notes.new (telling_of t)) }
+{
+    let kind = &expr.kind;
+    let ExprKind::Choose(element, name, set, condition) = kind else {
+        unreachable!()
+    };
+    let (told, mut apart) = check_apart(set.get(), cx, scope, kind, want, notes)?;
+    let inner = inner_scope(cx.alloc, &*scope, name, set_sort(&told))?;
+    check_second(element.get(), cx, &inner, kind, want, &told, notes)?;
+    notes.types.append(&mut apart)?;
+    if let Some(condition) = condition {
+        check_third(condition.get(), cx, &inner, kind, want, &told, notes)?;
+    }
+    Ok(Telling::Untold)
+}
+
+/// Checks the parts of an expression that names the element of a flat value.
+#[cycle(check)]
+fn check_bind(
+    expr: &Expr,
+    cx: &Context<'_>,
+    scope: &Scope<'_>,
+    want: &Want,
+    notes: &mut Notes,
+) -> Result<Telling, AllocError>
+    requires names { AreNames cx.now.spec.now cx.now.names.now }
+    requires form { IsBind expr.now }
+    ensures { IfOk result (λ t. HasCheckedParts cx.now.spec.now (place (scope_of scope.now) (want_of want.now) expr.now) notes.old notes.new (telling_of t)) }
+{
+    let kind = &expr.kind;
+    let ExprKind::Bind(name, flat, body) = kind else {
+        unreachable!()
+    };
+    let told = check_first(flat.get(), cx, scope, kind, want, notes)?;
+    let inner = inner_scope(cx.alloc, &*scope, name, flat_sort(&told))?;
+    check_second(body.get(), cx, &inner, kind, want, &told, notes)?;
+    Ok(Telling::Untold)
+}
+
+/// Notes the faults and types of expressions of which the same is wanted.
+#[cycle(check)]
+fn check_each(
+    exprs: &[Expr],
+    cx: &Context<'_>,
+    scope: &Scope<'_>,
+    want: &Want,
+    notes: &mut Notes,
+) -> Result<(), AllocError>
+    requires { AreNames cx.now.spec.now cx.now.names.now }
+    ensures { OnOk result (AreNoted cx.now.spec.now (map (place (scope_of scope.now) (want_of want.now)) exprs.now) notes.old notes.new) }
+{
+    for expr in exprs {
+        check(expr, cx, scope, want, notes)?;
+    }
+    Ok(())
+}
+
+/// Notes the faults and types of the arguments of a call, of which these lattices are declared.
+#[cycle(check)]
+fn check_arguments(
+    given: &[Expr],
+    cx: &Context<'_>,
+    scope: &Scope<'_>,
+    declared: &[Named],
+    notes: &mut Notes,
+) -> Result<(), AllocError>
+    requires { AreNames cx.now.spec.now cx.now.names.now }
+    ensures { OnOk result (AreNoted cx.now.spec.now (arguments (scope_of scope.now) declared.now given.now) notes.old notes.new) }
+{
+    for (at, argument) in given.iter().enumerate() {
+        let wanted = argument_want(declared.get(at))?;
+        check(argument, cx, scope, &wanted, notes)?;
+    }
+    Ok(())
+}

@@ -1,0 +1,5 @@
+pub mod Clean
+pub mod Shown
+pub mod Typed
+pub mod Laws
+pub mod Order

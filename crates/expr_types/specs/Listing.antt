@@ -1,0 +1,44 @@
+-- The types with which expressions are listed, whether they have faults or not.
+use Rattle.std.specs.Prelude.{◌≡◌, List, [], ◌∷◌, ◌++◌}
+use Rattle.std.specs.List.{AllZip}
+use Rattle.flow_syntax.specs.declared.expr.Expr.{Expr}
+use Rattle.flow_syntax.specs.declared.spec.Spec.{Spec}
+use Rattle.flow_syntax.specs.Expressions.{expressions_of}
+use Rattle.flow_syntax.specs.ExprPlaces.{Place, parts_of}
+use Rattle.flow_syntax.specs.ExprTypes.{HasType, AreTypes, wholes_of}
+use Rattle.flow_syntax.specs.Faults.{HasNoFault}
+use Rattle.flow_syntax.specs.Telling.{Telling, is, told}
+use Rattle.flow_syntax.specs.Types.{Typing, truth}
+use Rattle.flow_syntax.specs.Wants.{Want, known}
+
+-- the type with which an expression is listed, of which this is wanted and told: truth stands for one that isn't known
+abbrev pub listed_type : Want → Telling → Typing
+listed_type (known t) telling = t
+listed_type want (is t) = t
+listed_type want telling = truth
+
+-- Expressions at their places and all their parts are listed with these types, an outer one before its parts.
+pub data AreListed (spec : Spec) : List Place → List Typing → Type 0 where
+  none : AreListed spec [] []
+  next : (p : Place) (ps : List Place) (inner others : List Typing) → AreListed spec (parts_of spec p) inner → AreListed spec ps others
+      → AreListed spec (p ∷ ps) (listed_type p.want (told spec p.scope p.expr) ∷ inner ++ others)
+
+-- The types of expressions are added to a list.
+pub record Lists (spec : Spec) (ps : List Place) (old new : List Typing) : Type 0 where
+  pub types : List Typing
+  pub added : new ≡ old ++ types
+  pub listed : AreListed spec ps types
+
+-- The expressions of a specification without faults have the types with which they are listed.
+abbrev pub FaultlessExpressionsHaveTypes : Type 0
+FaultlessExpressionsHaveTypes = (spec : Spec) (types : List Typing) → HasNoFault spec → AreListed spec (wholes_of spec) types → AreTypes spec types
+
+-- An expression has this type at a place where it stands.
+pub record IsTypeOf (spec : Spec) (e : Expr) (t : Typing) : Type 0 where
+  pub place : Place
+  pub stands : place.expr ≡ e
+  pub has : HasType spec place t
+
+-- The types of all expressions of a specification are those of its expressions in their order, one for each.
+abbrev pub TypesAreInOrder : Type 0
+TypesAreInOrder = (spec : Spec) (types : List Typing) → AreTypes spec types → AllZip (IsTypeOf spec) (expressions_of spec) types

@@ -1,0 +1,10 @@
+pub mod Loops
+pub mod PatternLayers
+pub mod ExprBinders
+pub mod Sets
+pub mod Heads
+pub mod Misapplied
+pub mod ItemLemmas
+pub mod Repeats
+pub mod WholeRules
+pub mod WholeVariables

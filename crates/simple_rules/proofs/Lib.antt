@@ -1,0 +1,4 @@
+pub mod FormLemmas
+pub mod HeldReads
+pub mod LeastLemmas
+pub mod PlaceLemmas
