@@ -16,11 +16,11 @@ module _ (sc tc : Option (List ℕ)) (spec_read : Read TypedSpec) (spec_told : I
   first_refused line is out e = refused_specification
       (subst (λ (bytes : List ℕ). IsRefusedSpecification sc bytes) (sym e.0) (subst (λ (r : Read TypedSpec). IsReadSpecification sc r) is spec_told)) e.1
 
-  module _ (typed : TypedSpec) (is_spec : spec_read ≡ Accepted typed) (tree_read : Read Term) (tree_told : IsReadTree tc tree_read) where
+  module _ (typed : TypedSpec) (is_spec : spec_read ≡ Accepted typed) (tree_read : Read Term) (tree_told : IsReadTree typed.spec.signature tc tree_read) where
     pub second_refused : (line : Vec ℕ Global) → tree_read ≡ Refused line → (out : Output) → (out.bytes.items ≡ line.items) × (out.end ≡ end.Refused) → IsGraphOutput sc tc out.bytes.items out.end
     second_refused line is out e = refused_tree typed.spec (subst (λ (r : Read TypedSpec). IsReadSpecification sc r) is_spec spec_told)
-        (subst (λ (bytes : List ℕ). IsRefusedTree tc bytes) (sym e.0) (subst (λ (r : Read Term). IsReadTree tc r) is tree_told)) e.1
+        (subst (λ (bytes : List ℕ). IsRefusedTree typed.spec.signature tc bytes) (sym e.0) (subst (λ (r : Read Term). IsReadTree typed.spec.signature tc r) is tree_told)) e.1
 
     pub both_accepted : (tree : Term) → tree_read ≡ Accepted tree → (bytes : List ℕ) → GraphText typed.spec tree bytes → IsGraphOutput sc tc bytes end.Done
     both_accepted tree is bytes text = printed typed.spec tree (subst (λ (r : Read TypedSpec). IsReadSpecification sc r) is_spec spec_told)
-        (subst (λ (r : Read Term). IsReadTree tc r) is tree_told) text refl
+        (subst (λ (r : Read Term). IsReadTree typed.spec.signature tc r) is tree_told) text refl

@@ -1,3 +1,4 @@
+pub mod AcceptLemmas
 pub mod FileLemmas
 pub mod GraphLemmas
 pub mod RunLemmas

@@ -1,12 +1,11 @@
 -- What was written, by the status, and that an output ends in one way.
-use Rattle.std.proofs.Common.{◌≡◌, ◌≢◌, ℕ, ◌≤◌, ◌<◌, List, Option, Some, None, length, take, refl, sym, ap, subst, ◌∙◌, inl, inr, arith}
+use Rattle.std.proofs.Common.{◌≡◌, ℕ, ◌≤◌, List, Option, Some, None, length, take, refl, sym, ap, subst, ◌∙◌, inl, inr, arith}
 use Rattle.std.specs.Prelude.{◌⊎◌}
 use Rattle.std.specs.FinMap.{get}
 use Rattle.std.proofs.lemmas.Option.{same_Some}
 use Rattle.flow_term.specs.declared.term.Term.{Term}
-use Rattle.aterm_text.proofs.Reading.{one_answer}
 use Rattle.flow_syntax.specs.declared.spec.Spec.{Spec}
-use Rattle.flow_syntax.specs.FirstForm.{FirstSpec}
+use Rattle.flow_syntax.specs.declared.signature.Signature.{Signature}
 use Rattle.flow_io.specs.Contents.{Contents}
 use Rattle.flow_cli.specs.declared.output.End.{End}
 use Rattle.flow_cli.specs.declared.output.End.TheVariants as end
@@ -16,6 +15,7 @@ use Rattle.flow_cli.specs.declared.words.Request.{Request}
 use Rattle.flow_cli.specs.declared.words.Request.TheVariants.{Graph}
 use Rattle.flow_cli.specs.Files.{IsRefusal, IsRefusedSpecification, IsRefusedTree, IsSpecification, IsTree, missing, too_large, ill_formed, specification_limit, tree_limit}
 use Rattle.flow_cli.specs.Outcome.{IsOutcome, IsWhole, IsWritten, Outcome, all, part, status_of}
+use Rattle.flow_cli.proofs.AcceptLemmas.{text_or_refused, tree_or_refused, same_specification}
 use Rattle.flow_cli.specs.Whole.{IsGraphOutput, Whole, refused_specification, refused_tree, printed}
 use Rattle.flow_cli.specs.Words.{request_of}
 
@@ -51,11 +51,16 @@ not_both file limit IsBad content line bytes is small good (ill_formed other cau
 
 refused_or_specification : (content : Option (List ℕ)) (line : List ℕ) (spec : Spec) → IsRefusedSpecification content line → IsSpecification content spec → ⊥
 refused_or_specification content line spec line_is accepted =
-    not_both _ specification_limit _ content line accepted.bytes accepted.is accepted.small (λ cause bad. bad.0 spec accepted.form) line_is
+    not_both _ specification_limit _ content line accepted.bytes accepted.is accepted.small (λ cause bad. text_or_refused accepted.bytes cause spec accepted.form bad) line_is
 
-refused_or_tree : (content : Option (List ℕ)) (line : List ℕ) (tree : Term) → IsRefusedTree content line → IsTree content tree → ⊥
-refused_or_tree content line tree line_is accepted =
-    not_both _ tree_limit _ content line accepted.bytes accepted.is accepted.small (λ cause bad. (one_answer accepted.bytes).not_both tree bad.0 bad.1 accepted.form bad.2) line_is
+refused_or_tree : (signature : Option Signature) (content : Option (List ℕ)) (line : List ℕ) (tree : Term) → IsRefusedTree signature content line → IsTree signature content tree → ⊥
+refused_or_tree signature content line tree line_is accepted =
+    not_both _ tree_limit _ content line accepted.bytes accepted.is accepted.small (λ cause bad. tree_or_refused signature accepted.bytes cause tree accepted.form accepted.fits bad) line_is
+
+-- a tree isn't refused with one specification of a content, and accepted with another
+refused_with_same : (sc tc : Option (List ℕ)) (line : List ℕ) (spec other : Spec) (tree : Term) → IsSpecification sc spec → IsSpecification sc other → IsRefusedTree spec.signature tc line → IsTree other.signature tc tree → ⊥
+refused_with_same sc tc line spec other tree one two line_is accepted =
+    refused_or_tree other.signature tc line tree (subst (λ (s : Spec). IsRefusedTree s.signature tc line) (same_specification sc spec other one two) line_is) accepted
 
 graph_ends : (sc tc : Option (List ℕ)) (out other : List ℕ) (how way : End) → IsGraphOutput sc tc out how → IsGraphOutput sc tc other way → how ≡ way
 graph_ends sc tc out other how way (refused_specification line_is e) (refused_specification line_is' f) = e ∙ sym f
@@ -63,9 +68,9 @@ graph_ends sc tc out other how way (refused_specification line_is e) (refused_tr
 graph_ends sc tc out other how way (refused_specification line_is e) (printed spec tree accepted t g f) = absurd (refused_or_specification sc out spec line_is accepted)
 graph_ends sc tc out other how way (refused_tree spec accepted line_is e) (refused_specification line_is' f) = absurd (refused_or_specification sc other spec line_is' accepted)
 graph_ends sc tc out other how way (refused_tree spec accepted line_is e) (refused_tree spec' accepted2 line_is' f) = e ∙ sym f
-graph_ends sc tc out other how way (refused_tree spec accepted line_is e) (printed spec' tree accepted2 t g f) = absurd (refused_or_tree tc out tree line_is t)
+graph_ends sc tc out other how way (refused_tree spec accepted line_is e) (printed spec' tree accepted2 t g f) = absurd (refused_with_same sc tc out spec spec' tree accepted accepted2 line_is t)
 graph_ends sc tc out other how way (printed spec tree accepted t g e) (refused_specification line_is f) = absurd (refused_or_specification sc other spec line_is accepted)
-graph_ends sc tc out other how way (printed spec tree accepted t g e) (refused_tree spec' accepted2 line_is f) = absurd (refused_or_tree tc other tree line_is t)
+graph_ends sc tc out other how way (printed spec tree accepted t g e) (refused_tree spec' accepted2 line_is f) = absurd (refused_with_same sc tc other spec' spec tree accepted2 accepted line_is t)
 graph_ends sc tc out other how way (printed spec tree accepted t g e) (printed spec' tree' accepted2 t' g' f) = e ∙ sym f
 
 ends_of : (request : Request) (files : Contents) (out other : List ℕ) (how way : End) → Whole request files out how → Whole request files other way → how ≡ way

@@ -1,12 +1,11 @@
 -- Which files are accepted, and with which line a file is refused.
-use Rattle.std.specs.Prelude.{◌≡◌, ℕ, ◌<◌, ◌≤◌, ◌^◌, List, [], ◌∷◌, ◌++◌, Option, Some, None, length, codes, decimal}
+use Rattle.std.specs.Prelude.{◌≡◌, ℕ, ◌<◌, ◌≤◌, ◌^◌, List, [], ◌∷◌, ◌++◌, Option, Some, None, length, codes}
 use Rattle.flow_term.specs.declared.term.Term.{Term}
-use Rattle.aterm_text.specs.declared.refusal.TermFaultKind.{TermFaultKind}
-use Rattle.aterm_text.specs.declared.refusal.TermFaultKind.TheVariants as kinds
-use Rattle.aterm_text.specs.Faults.{TermFaulty}
 use Rattle.aterm_text.specs.Grammar.{TermText}
+use Rattle.flow_syntax.specs.declared.signature.Signature.{Signature}
 use Rattle.flow_syntax.specs.declared.spec.Spec.{Spec}
-use Rattle.flow_syntax.specs.FirstForm.{FirstSpec}
+use Rattle.tree_sorts.specs.Fits.{TreeFits}
+use Rattle.flow_cli.specs.Accepted.{SpecificationText, IsNoSpecification, IsNoTree}
 
 -- the greatest lengths, in bytes
 abbrev pub specification_limit : ℕ
@@ -15,44 +14,20 @@ specification_limit = 2 ^ 20
 abbrev pub tree_limit : ℕ
 tree_limit = 2 ^ 25
 
--- The content of a name is a specification.
+-- The content of a name is a specification that is taken.
 pub record IsSpecification (content : Option (List ℕ)) (spec : Spec) : Type 0 where
   pub bytes : List ℕ
   pub is : content ≡ Some bytes
   pub small : length bytes ≤ specification_limit
-  pub form : FirstSpec bytes spec
+  pub form : SpecificationText bytes spec
 
--- The content of a name is a tree.
-pub record IsTree (content : Option (List ℕ)) (tree : Term) : Type 0 where
+-- The content of a name is a tree that fits the signature.
+pub record IsTree (signature : Option Signature) (content : Option (List ℕ)) (tree : Term) : Type 0 where
   pub bytes : List ℕ
   pub is : content ≡ Some bytes
   pub small : length bytes ≤ tree_limit
   pub form : TermText bytes tree
-
--- Bytes are no specification, for this cause.
-abbrev pub IsNoSpecification : List ℕ → List ℕ → Type 0
-IsNoSpecification bytes cause = ((spec : Spec) → ¬ FirstSpec bytes spec) × (cause ≡ codes "not in the first form")
-
--- the name of a fault of a tree's text
-abbrev pub kind_name : TermFaultKind → List ℕ
-kind_name kinds.NotUtf8 = codes "NotUtf8"
-kind_name kinds.Unexpected = codes "Unexpected"
-kind_name kinds.Shared = codes "Shared"
-kind_name kinds.Placeholder = codes "Placeholder"
-kind_name kinds.Real = codes "Real"
-kind_name kinds.Blob = codes "Blob"
-kind_name kinds.BadEscape = codes "BadEscape"
-kind_name kinds.IntRange = codes "IntRange"
-kind_name kinds.TooDeep = codes "TooDeep"
-kind_name kinds.TooMany = codes "TooMany"
-
--- a fault, and where it stands
-abbrev pub fault_text : ℕ → TermFaultKind → List ℕ
-fault_text offset kind = kind_name kind ++ codes " at " ++ decimal offset
-
--- Bytes are no tree: their first fault is the cause.
-abbrev pub IsNoTree : List ℕ → List ℕ → Type 0
-IsNoTree bytes cause = (offset : ℕ) × (kind : TermFaultKind) × TermFaulty bytes offset kind × (cause ≡ fault_text offset kind)
+  pub fits : TreeFits signature tree
 
 -- the line with which a file is refused for a cause
 abbrev pub refusal_line : List ℕ → List ℕ → List ℕ
@@ -70,5 +45,5 @@ pub data IsRefusal (file : List ℕ) (limit : ℕ) (IsBad : List ℕ → List �
 abbrev pub IsRefusedSpecification : Option (List ℕ) → List ℕ → Type 0
 IsRefusedSpecification = IsRefusal (codes "specification") specification_limit IsNoSpecification
 
-abbrev pub IsRefusedTree : Option (List ℕ) → List ℕ → Type 0
-IsRefusedTree = IsRefusal (codes "tree") tree_limit IsNoTree
+abbrev pub IsRefusedTree : Option Signature → Option (List ℕ) → List ℕ → Type 0
+IsRefusedTree signature = IsRefusal (codes "tree") tree_limit (IsNoTree signature)

@@ -16,9 +16,9 @@ pub data IsGraphOutput (spec_content tree_content : Option (List ℕ)) (out : Li
   -- the specification is refused
   refused_specification : IsRefusedSpecification spec_content out → how ≡ end.Refused → IsGraphOutput spec_content tree_content out how
   -- the specification is accepted, and the tree is refused
-  refused_tree : (spec : Spec) → IsSpecification spec_content spec → IsRefusedTree tree_content out → how ≡ end.Refused → IsGraphOutput spec_content tree_content out how
+  refused_tree : (spec : Spec) → IsSpecification spec_content spec → IsRefusedTree spec.signature tree_content out → how ≡ end.Refused → IsGraphOutput spec_content tree_content out how
   -- both are accepted, and the graph is written
-  printed : (spec : Spec) (tree : Term) → IsSpecification spec_content spec → IsTree tree_content tree → GraphText spec tree out → how ≡ end.Done → IsGraphOutput spec_content tree_content out how
+  printed : (spec : Spec) (tree : Term) → IsSpecification spec_content spec → IsTree spec.signature tree_content tree → GraphText spec tree out → how ≡ end.Done → IsGraphOutput spec_content tree_content out how
 
 -- The whole output of a request over these files, and how it ends.
 abbrev pub Whole : Request → Contents → List ℕ → End → Type 0

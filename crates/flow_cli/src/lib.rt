@@ -6,6 +6,7 @@
 
 mod accept;
 mod files;
+mod names;
 mod output;
 mod print;
 mod running;

@@ -119,7 +119,7 @@ fn graph_output<F: Folder>(
         Read::Accepted(spec) => spec,
         Read::Refused(bytes) => return Ok(refusal(bytes)),
     };
-    let tree = match read_tree(alloc, folder, tree.as_str())? {
+    let tree = match read_tree(alloc, folder, tree.as_str(), &spec)? {
         Read::Accepted(tree) => tree,
         Read::Refused(bytes) => return Ok(refusal(bytes)),
     };

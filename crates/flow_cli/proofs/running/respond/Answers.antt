@@ -1,7 +1,6 @@
 use Rattle.std.proofs.Common.{Option, subst}
 use Rattle.std.specs.Prelude.{IfSome}
 use Rattle.flow_io.specs.Contents.{Contents}
-use Rattle.flow_io.specs.Faults.{HasRisen}
 use Rattle.flow_cli.specs.Whole.{Whole}
 use Rattle.flow_cli.proofs.RunLemmas.{outcome_of_written}
 use Rattle.flow_cli.proofs.running.respond.Goals as goal

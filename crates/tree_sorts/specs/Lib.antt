@@ -1,0 +1,4 @@
+pub mod Fits
+pub mod Index
+pub mod Least
+pub mod Searching
