@@ -1,5 +1,5 @@
 -- Each form of expression: its parts in the order in which they are checked, and what it tells.
-use Rattle.std.proofs.Common.{◌≡◌, ℕ, List, [], ◌∷◌, ◌++◌, map, Option, Some, None, refl, sym, ap, subst, ◌∙◌, inl, inr}
+use Rattle.std.proofs.Common.{◌≡◌, ℕ, List, [], ◌∷◌, ◌++◌, length, map, Option, Some, None, refl, sym, ap, subst, ◌∙◌, inl, inr}
 use Rattle.std.specs.Prelude.{◌⊎◌, ℤ, Bool}
 use Rattle.flow_syntax.specs.declared.expr.ArithOp.{ArithOp}
 use Rattle.flow_syntax.specs.declared.expr.CompareOp.{CompareOp}
@@ -18,9 +18,9 @@ use Rattle.flow_syntax.specs.Wants.{Want, told_in, known_sort, source_want, elem
 use Rattle.flow_syntax.specs.ExprPlaces.{Place, place, parts_in, truth_want, optional}
 use Rattle.flow_syntax.proofs.ExprLayers.{layer_of_int, layer_of_str, layer_of_truth, layer_of_bottom, layer_of_top, layer_of_unreached, layer_of_ident, layer_of_read, layer_of_both, layer_of_choose, layer_of_map_of, layer_of_look, layer_of_update, layer_of_set2, layer_of_arith, layer_of_compare, layer_of_member, layer_of_and, layer_of_or, layer_of_bind, layer_of_if}
 use Rattle.expr_sorts.specs.declared.notes.Notes.{Notes}
-use Rattle.expr_sorts.specs.Noted.{IsNoted, AreNoted, noted_types}
+use Rattle.expr_sorts.specs.Noted.{IsNoted, AreNoted, noted_types, put_behind}
 use Rattle.expr_sorts.specs.Plans.{first_part_want, second_part_want, third_part_want, leaf_telling, tell_two}
-use Rattle.expr_sorts.specs.Checked.{IsChecked, IsCheckedApart, HasCheckedParts}
+use Rattle.expr_sorts.specs.Checked.{IsChecked, HasCheckedParts}
 use Rattle.expr_sorts.proofs.Parts.{none_noted, part_ahead, part_noted, part_noted_then, parts_noted}
 
 -- A layer has no parts.
@@ -178,37 +178,35 @@ module _ (spec : Spec) (s : Scope) (w : Want) (e : Expr) where
       subst (λ (y : Want). IsNoted spec (place (with_variable s x sort') y a) o n) wanted
       (subst (λ (y : Scope). IsNoted spec (place y v a) o n) (scoped ∙ ap (with_variable s x) same) g)
 
-  first_in : {o n : Notes} (layer : ExprLayer) (a : Expr) → expr_layer e ≡ layer → IsNoted spec (place s (first_part_want w (expr_layer e)) a) o n → IsNoted spec (place s (first_part_want w layer) a) o n
-  first_in {o} {n} layer a at g = subst (λ (y : ExprLayer). IsNoted spec (place s (first_part_want w y) a) o n) at g
-
-  apart_in : {o n : Notes} {t : Telling} (apart : List Typing) (layer : ExprLayer) (a : Expr) → expr_layer e ≡ layer → IsCheckedApart spec (place s (first_part_want w (expr_layer e)) a) o n apart t
-      → IsCheckedApart spec (place s (first_part_want w layer) a) o n apart t
-  apart_in {o} {n} {t} apart layer a at g = subst (λ (y : ExprLayer). IsCheckedApart spec (place s (first_part_want w y) a) o n apart t) at g
+  -- the part that is checked first, by the layer
+  first_checked : {o n : Notes} {t : Telling} (layer : ExprLayer) (a : Expr) → expr_layer e ≡ layer → IsChecked spec (place s (first_part_want w (expr_layer e)) a) o n t → IsChecked spec (place s (first_part_want w layer) a) o n t
+  first_checked {o} {n} {t} layer a at g = subst (λ (y : ExprLayer). IsChecked spec (place s (first_part_want w y) a) o n t) at g
 
   pub checked_bind : {o m n : Notes} {t u : Telling} (x : List ℕ) (a b : Expr) (si : Scope) → (out-Expr e).kind ≡ exprs.Bind x a b → IsChecked spec (place s (first_part_want w (expr_layer e)) a) o m t → si ≡ with_variable s x (flat_sort t)
       → IsChecked spec (place si (second_part_want w t (expr_layer e)) b) m n u → HasCheckedParts spec (place s w e) o n untold
   checked_bind {t = t} x a b si is h scoped k =
       let at : expr_layer e ≡ ExprKind-F.Bind x a b = ap out-ExprKind is ∙ layer_of_bind x a b in
       checked_at (ExprKind-F.Bind x a b) untold at
-      (part_noted_then spec _ (place (with_variable s x (flat_sort (told spec s a))) (same_want any_flat w) b ∷ []) (first_in (ExprKind-F.Bind x a b) a at h.noted)
+      (part_noted_then spec _ (place (with_variable s x (flat_sort (told spec s a))) (same_want any_flat w) b ∷ []) (first_checked (ExprKind-F.Bind x a b) a at h).noted
       (part_noted spec _ (inside si x (flat_sort t) (flat_sort (told spec s a)) _ (same_want any_flat w) b scoped (ap flat_sort h.tells) (ap (second_part_want w t) at) k.noted))) refl
 
-  pub checked_member : {o m k n : Notes} {t u : Telling} (a from : Expr) (apart : List Typing) → (out-Expr e).kind ≡ exprs.Member a from → IsCheckedApart spec (place s (first_part_want w (expr_layer e)) from) o m apart t
-      → IsChecked spec (place s (second_part_want w t (expr_layer e)) a) m k u → n.earliest ≡ k.earliest → noted_types n ≡ noted_types k ++ apart → HasCheckedParts spec (place s w e) o n (told_as truth)
-  checked_member {t = t} a from apart at_kind h k earliest types =
+  pub checked_member : {o m k n : Notes} {t u : Telling} (a from : Expr) (start middle : ℕ) → (out-Expr e).kind ≡ exprs.Member a from → start ≡ length (noted_types o)
+      → IsChecked spec (place s (first_part_want w (expr_layer e)) from) o m t → middle ≡ length (noted_types m) → IsChecked spec (place s (second_part_want w t (expr_layer e)) a) m k u → n.earliest ≡ k.earliest
+      → noted_types n ≡ put_behind start middle (noted_types k) → HasCheckedParts spec (place s w e) o n (told_as truth)
+  checked_member {t = t} a from start middle at_kind here h there k earliest types =
       let at : expr_layer e ≡ ExprKind-F.Member a from = ap out-ExprKind at_kind ∙ layer_of_member a from in
       checked_at (ExprKind-F.Member a from) (told_as truth) at
-      (part_ahead spec (place s (told_in any_set) from) (place s (known_sort (set_sort (told spec s from))) a) apart (apart_in apart (ExprKind-F.Member a from) from at h)
+      (part_ahead spec (place s (told_in any_set) from) (place s (known_sort (set_sort (told spec s from))) a) start middle here (first_checked (ExprKind-F.Member a from) from at h) there
       (at_want s _ _ a (ap (second_part_want w t) at ∙ ap (λ y. known_sort (set_sort y)) h.tells) k) earliest types) refl
 
   -- the first two parts of a set that is chosen from another one
-  pub choose_ahead : {o m k n : Notes} {t u : Telling} (a : Expr) (x : List ℕ) (from : Expr) (c : Option Expr) (si : Scope) (apart : List Typing) → (out-Expr e).kind ≡ exprs.Choose a x from c
-      → IsCheckedApart spec (place s (first_part_want w (expr_layer e)) from) o m apart t → si ≡ with_variable s x (set_sort t) → IsChecked spec (place si (second_part_want w t (expr_layer e)) a) m k u
-      → n.earliest ≡ k.earliest → noted_types n ≡ noted_types k ++ apart
+  pub choose_ahead : {o m k n : Notes} {t u : Telling} (a : Expr) (x : List ℕ) (from : Expr) (c : Option Expr) (si : Scope) (start middle : ℕ) → (out-Expr e).kind ≡ exprs.Choose a x from c → start ≡ length (noted_types o)
+      → IsChecked spec (place s (first_part_want w (expr_layer e)) from) o m t → middle ≡ length (noted_types m) → si ≡ with_variable s x (set_sort t) → IsChecked spec (place si (second_part_want w t (expr_layer e)) a) m k u
+      → n.earliest ≡ k.earliest → noted_types n ≡ put_behind start middle (noted_types k)
       → AreNoted spec (place (with_variable s x (set_sort (told spec s from))) (element_want w) a ∷ place s (source_want w) from ∷ []) o n
-  choose_ahead {t = t} a x from c si apart at_kind h scoped k earliest types =
+  choose_ahead {t = t} a x from c si start middle at_kind here h there scoped k earliest types =
       let at : expr_layer e ≡ ExprKind-F.Choose a x from c = ap out-ExprKind at_kind ∙ layer_of_choose a x from c in
-      part_ahead spec (place s (source_want w) from) (place (with_variable s x (set_sort (told spec s from))) (element_want w) a) apart (apart_in apart (ExprKind-F.Choose a x from c) from at h)
+      part_ahead spec (place s (source_want w) from) (place (with_variable s x (set_sort (told spec s from))) (element_want w) a) start middle here (first_checked (ExprKind-F.Choose a x from c) from at h) there
       (inside si x (set_sort t) (set_sort (told spec s from)) _ (element_want w) a scoped (ap set_sort h.tells) (ap (second_part_want w t) at) k.noted) earliest types
 
   pub checked_choose : {o n k : Notes} (a : Expr) (x : List ℕ) (from : Expr) (c : Option Expr) → (out-Expr e).kind ≡ exprs.Choose a x from c

@@ -8,3 +8,4 @@ pub mod Patterns
 pub mod Places
 pub mod Sorts
 pub mod Scoping
+pub mod Turning

@@ -1,13 +1,35 @@
 -- The types of expressions, listed in turn.
-use Rattle.std.proofs.Common.{◌≡◌, ℕ, List, [], ◌∷◌, ◌++◌, length, sym, ap, subst, ◌∙◌, append_assoc}
-use Rattle.std.proofs.lemmas.List.{append-nil}
+use Rattle.std.proofs.Common.{◌≡◌, ℕ, ◌+◌, ◌-◌, ◌≤◌, List, [], ◌∷◌, ◌++◌, length, take, drop, sym, ap, subst, ◌∙◌, append_assoc, arith}
+use Rattle.std.proofs.lemmas.List.{append-nil, length-append}
 use Rattle.std.proofs.Math.ListN.{set}
-use Rattle.std.proofs.Math.Seq.{set-append_seam}
+use Rattle.std.proofs.Math.Seq.{drop-append_seam, set-append_seam, take-append_seam}
 use Rattle.flow_syntax.specs.declared.spec.Spec.{Spec}
 use Rattle.flow_syntax.specs.Telling.{told}
 use Rattle.flow_syntax.specs.Types.{Typing}
 use Rattle.flow_syntax.specs.ExprPlaces.{Place, parts_of}
 use Rattle.expr_types.specs.Listing.{AreListed, Lists, listed_type, none, next}
+use Rattle.expr_sorts.specs.Noted.{put_behind}
+
+-- three lists one behind another, of which the last two are turned
+turned : (os fs ps : List Typing) → put_behind (length os) (length (os ++ fs)) (os ++ fs ++ ps) ≡ os ++ (ps ++ fs)
+turned os fs ps =
+    ap (λ (ts : List Typing). ts ++ drop (length (os ++ fs)) (os ++ fs ++ ps) ++ take (length (os ++ fs) - length os) (drop (length os) (os ++ fs ++ ps))) (ap (take (length os)) (append_assoc os fs ps) ∙ take-append_seam os (fs ++ ps))
+    ∙ ap (λ (ts : List Typing). os ++ ts ++ take (length (os ++ fs) - length os) (drop (length os) (os ++ fs ++ ps))) (drop-append_seam (os ++ fs) ps)
+    ∙ ap (λ (ts : List Typing). os ++ ps ++ take (length (os ++ fs) - length os) ts) (ap (drop (length os)) (append_assoc os fs ps) ∙ drop-append_seam os (fs ++ ps))
+    ∙ ap (λ (n : ℕ). os ++ ps ++ take n (fs ++ ps)) counted ∙ ap (λ (ts : List Typing). os ++ ps ++ ts) (take-append_seam fs ps) ∙ append_assoc os ps fs
+  where
+    less : (m n : ℕ) → m + n - m ≡ n
+    less m n = omega arith
+
+    counted : length (os ++ fs) - length os ≡ length fs
+    counted = ap (λ n. n - length os) (length-append os fs) ∙ less (length os) (length fs)
+
+-- a list that is longer by some items
+pub longer : (os ts ns : List Typing) → ns ≡ os ++ ts → length os ≤ length ns
+longer os ts ns is = subst (λ n. length os ≤ n) (sym (ap length is ∙ length-append os ts)) (least (length os) (length ts))
+  where
+    least : (m n : ℕ) → m ≤ m + n
+    least m n = omega arith
 
 module _ (spec : Spec) where
   -- one list of expressions behind another
@@ -28,10 +50,14 @@ module _ (spec : Spec) where
       listed = AreListed-then ps qs g.types h.types g.listed h.listed;
     }
 
-  -- types that were listed apart are put behind
-  pub Lists-behind : {o m m' n : List Typing} (ps qs : List Place) (apart : List Typing) → AreListed spec qs apart → m ≡ o → Lists spec ps m m' → n ≡ m' ++ apart → Lists spec (ps ++ qs) o n
-  Lists-behind {o} {m} {m'} ps qs apart listed kept g is =
-      Lists-then ps qs (subst (λ (xs : List Typing). Lists spec ps xs m') kept g) (record { types = apart; added = is; listed = listed })
+  -- the types of expressions that are looked at first are put behind those of expressions that stand before them
+  pub Lists-turned : {o m k n : List Typing} (ps qs : List Place) (start middle : ℕ) → start ≡ length o → Lists spec qs o m → middle ≡ length m → Lists spec ps m k → n ≡ put_behind start middle k → Lists spec (ps ++ qs) o n
+  Lists-turned {o} {m} {k} {n} ps qs start middle here g there h is = record {
+    types = h.types ++ g.types;
+    added = is ∙ ap (λ i. put_behind i middle k) here ∙ ap (λ i. put_behind (length o) i k) (there ∙ ap length g.added) ∙ ap (put_behind (length o) (length (o ++ g.types))) (h.added ∙ ap (λ (ts : List Typing). ts ++ h.types) g.added)
+        ∙ turned o g.types h.types;
+    listed = AreListed-then ps qs h.types g.types h.listed g.listed;
+  }
 
   -- what is added to nothing
   pub from_nothing : {o n : List Typing} (ps : List Place) → o ≡ [] → Lists spec ps o n → AreListed spec ps n

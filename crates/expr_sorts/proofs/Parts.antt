@@ -1,30 +1,28 @@
 -- The faults of an expression, from those of its own and those of its parts, and what is noted of parts in turn.
-use Rattle.std.proofs.Common.{◌≡◌, ℕ, List, [], ◌∷◌, ◌++◌, length, map, sym, ap, subst, ◌∙◌, inl, inr, Vec, Global}
+use Rattle.std.proofs.Common.{◌≡◌, ℕ, ◌≤◌, List, [], ◌∷◌, ◌++◌, length, sym, ap, subst, ◌∙◌, inl, inr}
 use Rattle.std.specs.Prelude.{◌⊎◌, Contains, if◌then◌else◌}
 use Rattle.std.proofs.Math.ListN.{set}
-use Rattle.std.proofs.lemmas.List.{map-append}
 use Rattle.std.proofs.lemmas.List.Elements.{Contains-append_left, Contains-append_right, Contains-append_cases, Contains-push}
 use Rattle.flow_syntax.specs.declared.expr.Expr.{Expr}
 use Rattle.flow_syntax.specs.declared.fault.SpecFaultKind.{SpecFaultKind}
 use Rattle.flow_syntax.specs.declared.spec.Spec.{Spec}
-use Rattle.flow_syntax.specs.declared.types.ExprType.{ExprType}
 use Rattle.flow_syntax.specs.Expressions.{expr_layer}
 use Rattle.flow_syntax.specs.Scopes.{Scope}
 use Rattle.flow_syntax.specs.Telling.{Telling, hidden, is_well_named, form_telling, told, told_parts}
-use Rattle.flow_syntax.specs.Types.{Typing, truth, typing_of}
+use Rattle.flow_syntax.specs.Types.{Typing, truth}
 use Rattle.flow_syntax.specs.Wants.{Want}
 use Rattle.flow_syntax.specs.ExprPlaces.{Place, place, parts_of}
 use Rattle.flow_syntax.specs.ExprFaults.{FaultsWithin, own, inner, own_telling}
 use Rattle.earliest_fault.specs.Earliest.{Gathers}
-use Rattle.expr_types.specs.Listing.{AreListed, listed_type}
+use Rattle.expr_types.specs.Listing.{listed_type}
 use Rattle.earliest_fault.proofs.GathersLaws.{Found, Gathers-then, Gathers-same, Gathers-none}
 use Rattle.earliest_fault.proofs.ListLaws.{in_none, in_one}
 use Rattle.expr_types.proofs.Clean.{told_out, well_named_parts}
 use Rattle.expr_sorts.specs.Own.{OwnFaults, WholeHas, PartsHave}
 use Rattle.expr_sorts.specs.declared.notes.Notes.{Notes}
-use Rattle.expr_sorts.specs.Checked.{IsChecked, IsCheckedApart, HasCheckedParts}
-use Rattle.expr_sorts.specs.Noted.{IsNoted, AreNoted, noted_types}
-use Rattle.expr_sorts.proofs.Listed.{Lists-none, Lists-then, Lists-behind, Lists-whole, from_nothing}
+use Rattle.expr_sorts.specs.Checked.{IsChecked, HasCheckedParts}
+use Rattle.expr_sorts.specs.Noted.{IsNoted, AreNoted, noted_types, put_behind}
+use Rattle.expr_sorts.proofs.Listed.{Lists-none, Lists-then, Lists-turned, Lists-whole, longer}
 
 module _ (spec : Spec) (at : ℕ) (kind : SpecFaultKind) where
   among_parts : (ps : List Place) → PartsHave spec ps at kind → (q : Place) × Contains ps q × FaultsWithin spec at kind q
@@ -106,29 +104,17 @@ module _ (spec : Spec) where
     pub parts_push : (ps : List Place) (p : Place) → AreNoted spec ps o m → IsNoted spec p m n → AreNoted spec (ps ++ p ∷ []) o n
     parts_push ps p g h = parts_noted ps (p ∷ []) g (part_noted p h)
 
-  -- a part that is looked at apart and then the one that stands before it
-  pub part_ahead : {o m k n : Notes} {t : Telling} (f p : Place) (apart : List Typing) → IsCheckedApart spec f o m apart t → IsNoted spec p m k → n.earliest ≡ k.earliest → noted_types n ≡ noted_types k ++ apart → AreNoted spec (p ∷ f ∷ []) o n
-  part_ahead {o} {m} {k} {n} f p apart g h earliest types = record {
-    gathers = part_last p (f ∷ []) (one_part f g.gathers) (subst (λ (x : Found). Gathers m.earliest x (WholeHas spec p)) (sym earliest) h.gathers);
-    lists = Lists-behind spec (p ∷ []) (f ∷ []) apart g.listed g.kept h.lists types;
+  -- a part that is looked at first and then the one that stands before it
+  pub part_ahead : {o m k n : Notes} {t : Telling} (f p : Place) (start middle : ℕ) → start ≡ length (noted_types o) → IsChecked spec f o m t → middle ≡ length (noted_types m) → IsNoted spec p m k → n.earliest ≡ k.earliest
+      → noted_types n ≡ put_behind start middle (noted_types k) → AreNoted spec (p ∷ f ∷ []) o n
+  part_ahead {o} {m} {k} {n} f p start middle here g there h earliest types = record {
+    gathers = part_last p (f ∷ []) (one_part f g.noted.gathers) (subst (λ (x : Found). Gathers m.earliest x (WholeHas spec p)) (sym earliest) h.gathers);
+    lists = Lists-turned spec (p ∷ []) (f ∷ []) start middle here g.noted.lists there h.lists types;
   }
 
-  -- a part is looked at, and its types are listed from nothing
-  pub checked_apart : {o a m n : Notes} {t : Telling} (p : Place) (apart : List Typing) → a.earliest ≡ o.earliest → noted_types a ≡ [] → IsChecked spec p a m t → n.earliest ≡ m.earliest → noted_types n ≡ noted_types o → apart ≡ noted_types m
-      → IsCheckedApart spec p o n apart t
-  checked_apart {o} {a} {m} {n} p apart start nothing h finish kept is = record {
-    gathers = subst (λ (f : Found). Gathers o.earliest f (WholeHas spec p)) (sym finish) (subst (λ (f : Found). Gathers f m.earliest (WholeHas spec p)) start h.noted.gathers);
-    kept = kept;
-    listed = subst (λ (ts : List Typing). AreListed spec (p ∷ []) ts) (sym is) (from_nothing spec (p ∷ []) nothing h.noted.lists);
-    tells = h.tells;
-  }
-
--- the types of a list, of another one that is the same, and of one behind another
-pub same_types : (v w : Vec ExprType Global) → v ≡ w → map typing_of v.items ≡ map typing_of w.items
-same_types v w e = ap (λ (x : Vec ExprType Global). map typing_of x.items) e
-
-pub types_behind : (ts us vs : List ExprType) → ts ≡ us ++ vs → map typing_of ts ≡ map typing_of us ++ map typing_of vs
-types_behind ts us vs e = ap (map typing_of) e ∙ map-append typing_of us vs
+  -- what is listed before is still there
+  pub longer_by : {o n : Notes} (p : Place) → IsNoted spec p o n → length (noted_types o) ≤ length (noted_types n)
+  longer_by {o} {n} p h = longer (noted_types o) h.lists.types (noted_types n) h.lists.added
 
 -- what is told outside of an expression, where its form tells this
 pub told_outside : (spec : Spec) (s : Scope) (w : Want) (e : Expr) (t answer : Telling) → t ≡ own_telling spec (place s w e) → answer ≡ (if is_well_named spec s (expr_layer e) then t else hidden) → answer ≡ told spec s e

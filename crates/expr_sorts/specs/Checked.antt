@@ -23,13 +23,6 @@ pub record HasCheckedParts (spec : Spec) (p : Place) (old new : Notes) (answer :
   pub noted : AreNoted spec (parts_of spec p) old new
   pub tells : answer ≡ own_telling spec p
 
--- The faults of an expression and its parts are noted, their types are listed apart, and what is answered is told of it.
-pub record IsCheckedApart (spec : Spec) (p : Place) (old new : Notes) (apart : List Typing) (answer : Telling) : Type 0 where
-  pub gathers : Gathers old.earliest new.earliest (WholeHas spec p)
-  pub kept : noted_types new ≡ noted_types old
-  pub listed : AreListed spec (p ∷ []) apart
-  pub tells : answer ≡ told spec p.scope p.expr
-
 -- An expression is a set that is chosen from another one.
 pub record IsChoose (e : Expr) : Type 0 where
   pub element : Expr

@@ -1,5 +1,5 @@
 -- What is noted of expressions.
-use Rattle.std.specs.Prelude.{List, [], ◌∷◌, map}
+use Rattle.std.specs.Prelude.{ℕ, ◌-◌, List, [], ◌∷◌, ◌++◌, take, drop, map}
 use Rattle.std.specs.List.{flat_map}
 use Rattle.flow_syntax.specs.declared.message.Message.{Message}
 use Rattle.flow_syntax.specs.declared.spec.Spec.{Spec}
@@ -15,6 +15,10 @@ use Rattle.expr_sorts.specs.Own.{WholeHas, PartsHave}
 -- the types that are listed
 abbrev pub noted_types : Notes → List Typing
 noted_types n = map typing_of n.types.items
+
+-- a list in which the items from one place to another stand behind those that follow them
+abbrev pub put_behind : ℕ → ℕ → List Typing → List Typing
+put_behind start middle ts = take start ts ++ drop middle ts ++ take (middle - start) (drop start ts)
 
 -- the type that is told, or else truth
 abbrev pub told_type : Telling → Typing

@@ -4,7 +4,7 @@ ghost use Rattle.std.specs.Option.{option_copied};
 ghost use Rattle.flow_syntax.specs.Telling.{property_named, function_named, enum_with, lattice_with, constant_named, is_or_hidden, name_telling, property_telling, result_telling};
 ghost use Rattle.flow_syntax.specs.Scopes.{variable_named};
 ghost use Rattle.spec_names.specs.Tables.{AreNames};
-ghost use Rattle.expr_sorts.specs.Scoping.{scope_of, variable_in};
+ghost use Rattle.expr_sorts.specs.Scoping.{scope_of};
 ghost use Rattle.expr_sorts.specs.Views.{telling_of};
 ghost use Rattle.expr_sorts.specs.Naming.{is_bound};
 
@@ -92,7 +92,7 @@ pub fn name_telling(cx: &Context<'_>, scope: &Scope<'_>, name: &Text) -> Result<
     ensures { IfOk result (λ t. telling_of t ≡ name_telling (variable_named (scope_of scope.now) name.now) (constant_named cx.now.spec.now name.now)) }
 {
     match variable_named(scope, name) {
-        Some(variable) => match &variable.sort {
+        Some(variable) => match variable.sort {
             Some(sort) => told_element(cx.alloc, sort),
             None => Ok(Telling::Hidden),
         },

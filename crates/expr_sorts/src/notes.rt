@@ -1,8 +1,8 @@
 //! What is kept of the expressions that were looked at: the earliest fault, and the type of each.
-ghost use Rattle.std.specs.Prelude.{◌≡◌, ◌<◌, ◌∷◌, ◌++◌, [], IfOk, OnOk, length, map, set};
+ghost use Rattle.std.specs.Prelude.{◌≡◌, ◌<◌, ◌≤◌, ◌∷◌, ◌++◌, [], IfOk, OnOk, length, map, set};
 ghost use Rattle.expr_types.specs.Listing.{listed_type};
 ghost use Rattle.flow_syntax.specs.Types.{truth, typing_of};
-ghost use Rattle.expr_sorts.specs.Noted.{told_type};
+ghost use Rattle.expr_sorts.specs.Noted.{put_behind, told_type};
 ghost use Rattle.expr_sorts.specs.Views.{telling_of, want_of};
 
 use crate::telling::Telling;
@@ -17,6 +17,13 @@ use std::alloc::{AllocError, Global};
 pub struct Notes {
     pub earliest: Earliest,
     pub types: Vec<ExprType>,
+}
+
+/// How many types are listed.
+pub fn count(types: &Vec<ExprType>) -> usize
+    ensures { result ≡ length (map typing_of types.now.items) }
+{
+    types.len()
 }
 
 /// Lists a type that is set later, and answers where it stands.
@@ -35,6 +42,16 @@ pub fn set_type(types: &mut Vec<ExprType>, at: usize, typing: ExprType)
     ensures { map typing_of types.new.items ≡ set (map typing_of types.old.items) at (typing_of typing) }
 {
     types[at] = typing;
+}
+
+/// Puts the types that stand from `start` to `middle` behind those that follow them.
+pub fn put_behind(types: &mut Vec<ExprType>, start: usize, middle: usize)
+    requires from { start ≤ middle }
+    requires to { middle ≤ length (map typing_of types.old.items) }
+    ensures { map typing_of types.new.items ≡ put_behind start middle (map typing_of types.old.items) }
+{
+    let (_, turned) = types.as_mut_slice().split_at_mut(start);
+    turned.rotate_left(middle - start);
 }
 
 /// The type that is told, or else truth.

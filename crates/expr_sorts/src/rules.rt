@@ -12,12 +12,12 @@ ghost use Rattle.spec_names.specs.Tables.{AreNames};
 ghost use Rattle.expr_types.specs.Listing.{AreListed, Lists};
 ghost use Rattle.expr_sorts.specs.Noted.{IsNoted, conditions_of, noted_types};
 ghost use Rattle.expr_sorts.specs.Own.{ConditionHas, WholeHas};
-ghost use Rattle.expr_sorts.specs.Scoping.{bound_to, variable_of, whole_scope};
+ghost use Rattle.expr_sorts.specs.Scoping.{bound_to, pattern_variable, whole_scope};
 ghost use Rattle.expr_sorts.specs.Views.{want_of};
 
 use crate::names::{Context, property_named};
 use crate::notes::Notes;
-use crate::scope::{Scope, Variable, Whole};
+use crate::scope::{PatternVariable, Scope, Whole};
 use crate::walk::check;
 use crate::want::{Want, free, known_lattice, truth};
 use earliest_fault::Earliest;
@@ -31,24 +31,21 @@ use std::mem;
 
 /// Adds a variable of this sort.
 fn push_variable<'a>(
-    out: &mut Vec<Variable<'a>>,
+    out: &mut Vec<PatternVariable<'a>>,
     name: &'a Text,
     sort: ElemSort,
 ) -> Result<(), AllocError>
-    ensures { OnOk result (map variable_of out.new.items ≡ map variable_of out.old.items ++ bound_to name.now (sort_of sort) ∷ []) }
+    ensures { OnOk result (map pattern_variable out.new.items ≡ map pattern_variable out.old.items ++ bound_to name.now (sort_of sort) ∷ []) }
 {
-    out.push(Variable {
-        name,
-        sort: Some(sort),
-    })?;
+    out.push(PatternVariable { name, sort })?;
     Ok(())
 }
 
 /// Adds the variables of a pattern, in the order of the text.
 #[cycle(variables)]
 #[tactic(auto, using(crate::proofs::Patterns::variables_out))]
-fn push_variables<'a>(pattern: &'a Pattern, out: &mut Vec<Variable<'a>>) -> Result<(), AllocError>
-    ensures { OnOk result (map variable_of out.new.items ≡ map variable_of out.old.items ++ map bound_variable (bound_in pattern.now)) }
+fn push_variables<'a>(pattern: &'a Pattern, out: &mut Vec<PatternVariable<'a>>) -> Result<(), AllocError>
+    ensures { OnOk result (map pattern_variable out.new.items ≡ map pattern_variable out.old.items ++ map bound_variable (bound_in pattern.now)) }
 {
     match &pattern.kind {
         PatternKind::Var(name) => push_variable(out, name, ElemSort::Pos),
@@ -69,9 +66,9 @@ fn push_variables<'a>(pattern: &'a Pattern, out: &mut Vec<Variable<'a>>) -> Resu
 #[cycle(variables)]
 fn push_variables_of_each<'a>(
     patterns: &'a [Pattern],
-    out: &mut Vec<Variable<'a>>,
+    out: &mut Vec<PatternVariable<'a>>,
 ) -> Result<(), AllocError>
-    ensures { OnOk result (map variable_of out.new.items ≡ map variable_of out.old.items ++ map bound_variable (flat_map bound_in patterns.now)) }
+    ensures { OnOk result (map pattern_variable out.new.items ≡ map pattern_variable out.old.items ++ map bound_variable (flat_map bound_in patterns.now)) }
 {
     for pattern in patterns {
         push_variables(pattern, out)?;

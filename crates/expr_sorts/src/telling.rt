@@ -63,14 +63,22 @@ pub fn second_of(alloc: Global, whole: &Telling) -> Result<Telling, AllocError>
     }
 }
 
+/// A value of a map of this lattice.
+fn told_values(alloc: Global, map: &LatticeType) -> Result<Telling, AllocError>
+    ensures { IfOk result (λ t. telling_of t ≡ value_of (is (lattice (lattice_of map.now)))) }
+{
+    match map {
+        LatticeType::Map(_, values) => told_lattice(alloc, values.get()),
+        _ => Ok(Telling::Hidden),
+    }
+}
+
 /// A value of a map.
 pub fn value_of(alloc: Global, map: &Telling) -> Result<Telling, AllocError>
     ensures { IfOk result (λ t. telling_of t ≡ value_of (telling_of map.now)) }
 {
     match map {
-        Telling::Is(ExprType::Lattice(LatticeType::Map(_, values))) => {
-            told_lattice(alloc, values.get())
-        }
+        Telling::Is(ExprType::Lattice(map)) => told_values(alloc, map),
         _ => Ok(Telling::Hidden),
     }
 }

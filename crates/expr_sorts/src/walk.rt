@@ -1,13 +1,12 @@
 //! The walk over an expression: notes each fault in it, lists the type of each part, and answers what is told of its own.
 ghost use Rattle.std.specs.Prelude.{◌≡◌, IfOk, OnOk, map};
-ghost use Rattle.std.specs.Option.{option_copied, option_map};
+ghost use Rattle.std.specs.Option.{option_copied};
 ghost use Rattle.flow_syntax.specs.declared.expr.ExprKind.{out-ExprKind};
 ghost use Rattle.flow_syntax.specs.Scopes.{with_variable};
 ghost use Rattle.flow_syntax.specs.Telling.{function_named};
-ghost use Rattle.flow_syntax.specs.Types.{sort_of, typing_of};
 ghost use Rattle.flow_syntax.specs.ExprPlaces.{arguments, declared_arguments, place};
 ghost use Rattle.spec_names.specs.Tables.{AreNames};
-ghost use Rattle.expr_sorts.specs.Checked.{HasCheckedParts, IsBind, IsChecked, IsCheckedApart, IsChoose, IsMember};
+ghost use Rattle.expr_sorts.specs.Checked.{HasCheckedParts, IsBind, IsChecked, IsChoose, IsMember};
 ghost use Rattle.expr_sorts.specs.Noted.{AreNoted, IsNoted};
 ghost use Rattle.expr_sorts.specs.Plans.{argument_want, first_part_want, outside, second_part_want, third_part_want};
 ghost use Rattle.expr_sorts.specs.Scoping.{scope_of};
@@ -17,16 +16,15 @@ use crate::form::{
     first_part_want, second_part_want, tell_leaf, tell_one, tell_two, third_part_want,
 };
 use crate::names::{Context, function_named, result_telling};
-use crate::notes::{Notes, hold_place, listed_type, set_type};
+use crate::notes::{Notes, count, hold_place, listed_type, put_behind, set_type};
 use crate::own::{is_well_named, note_own};
 use crate::scope::{Scope, Variable};
 use crate::telling::{Telling, flat_sort, set_sort};
-use crate::types::{copy_named, copy_sort};
+use crate::types::copy_named;
 use crate::want::{Want, element_want, free, key_want, value_want};
 use flow_syntax::{ElemSort, Expr, ExprKind, ExprType, LatticeType, Named};
 use flow_term::Text;
 use std::alloc::{AllocError, Global};
-use std::mem;
 
 /// What those that need the type of an expression are told, where its form tells this.
 fn outside(cx: &Context<'_>, scope: &Scope<'_>, kind: &ExprKind, told: Telling) -> Telling
@@ -64,27 +62,15 @@ fn argument_want(declared: Option<&Named>) -> Result<Want, AllocError>
     }
 }
 
-/// A sort once more, if there is one.
-fn copy_known(alloc: Global, sort: Option<&ElemSort>) -> Result<Option<ElemSort>, AllocError>
-    ensures { IfOk result (λ s. option_map sort_of s ≡ sort_in sort.entry) }
-{
-    match sort {
-        Some(sort) => Ok(Some(copy_sort(alloc, sort)?)),
-        None => Ok(None),
-    }
-}
-
 /// The scope around, with one more variable.
 fn inner_scope<'a>(
-    alloc: Global,
     scope: &'a Scope<'a>,
     name: &'a Text,
-    sort: Option<&ElemSort>,
-) -> Result<Scope<'a>, AllocError>
-    ensures { IfOk result (λ inner. scope_of inner ≡ with_variable (scope_of scope.now) name.now (sort_in sort.entry)) }
+    sort: Option<&'a ElemSort>,
+) -> Scope<'a>
+    ensures { scope_of result ≡ with_variable (scope_of scope.now) name.now (sort_in sort.entry) }
 {
-    let sort = copy_known(alloc, sort)?;
-    Ok(Scope::Inner(scope, Variable { name, sort }))
+    Scope::Inner(scope, Variable { name, sort })
 }
 
 /// Notes the faults of an expression and of its parts, lists their types, and answers what is told of its type.
@@ -193,25 +179,6 @@ fn check_first(
     check(part, cx, scope, &wanted, notes)
 }
 
-/// Checks the part that is checked first but stands behind another one, and answers the types of it and its parts apart.
-#[cycle(check)]
-fn check_apart(
-    part: &Expr,
-    cx: &Context<'_>,
-    scope: &Scope<'_>,
-    kind: &ExprKind,
-    want: &Want,
-    notes: &mut Notes,
-) -> Result<(Telling, Vec<ExprType>), AllocError>
-    requires { AreNames cx.now.spec.now cx.now.names.now }
-    ensures { IfOk result (λ r. IsCheckedApart cx.now.spec.now (place (scope_of scope.now) (first_part_want (want_of want.now) (out-ExprKind kind.now)) part.now) notes.old notes.new (map typing_of r.1.items) (telling_of r.0)) }
-{
-    let before = mem::replace(&mut notes.types, Vec::new(cx.alloc));
-    let told = check_first(part, cx, scope, kind, want, notes)?;
-    let apart = mem::replace(&mut notes.types, before);
-    Ok((told, apart))
-}
-
 /// Checks the part that is checked second, where this is told of the first.
 #[cycle(check)]
 fn check_second(
@@ -266,9 +233,11 @@ fn check_member(
     let ExprKind::Member(element, set) = kind else {
         unreachable!()
     };
-    let (told, mut apart) = check_apart(set.get(), cx, scope, kind, want, notes)?;
+    let start = count(&notes.types);
+    let told = check_first(set.get(), cx, scope, kind, want, notes)?;
+    let middle = count(&notes.types);
     check_second(element.get(), cx, scope, kind, want, &told, notes)?;
-    notes.types.append(&mut apart)?;
+    put_behind(&mut notes.types, start, middle);
     Ok(Telling::Is(ExprType::Truth))
 }
 
@@ -289,10 +258,12 @@ fn check_choose(
     let ExprKind::Choose(element, name, set, condition) = kind else {
         unreachable!()
     };
-    let (told, mut apart) = check_apart(set.get(), cx, scope, kind, want, notes)?;
-    let inner = inner_scope(cx.alloc, &*scope, name, set_sort(&told))?;
+    let start = count(&notes.types);
+    let told = check_first(set.get(), cx, scope, kind, want, notes)?;
+    let middle = count(&notes.types);
+    let inner = inner_scope(&*scope, name, set_sort(&told));
     check_second(element.get(), cx, &inner, kind, want, &told, notes)?;
-    notes.types.append(&mut apart)?;
+    put_behind(&mut notes.types, start, middle);
     if let Some(condition) = condition {
         check_third(condition.get(), cx, &inner, kind, want, &told, notes)?;
     }
@@ -317,7 +288,7 @@ fn check_bind(
         unreachable!()
     };
     let told = check_first(flat.get(), cx, scope, kind, want, notes)?;
-    let inner = inner_scope(cx.alloc, &*scope, name, flat_sort(&told))?;
+    let inner = inner_scope(&*scope, name, flat_sort(&told));
     check_second(body.get(), cx, &inner, kind, want, &told, notes)?;
     Ok(Telling::Untold)
 }

@@ -2,14 +2,13 @@ use Rattle.std.proofs.Common.{None, Some, map, refl, sym, ap, ◌∙◌}
 use Rattle.std.proofs.lemmas.Result.{IfOk-weaker}
 use Rattle.flow_syntax.specs.declared.expr.ExprKind.TheVariants as exprs
 use Rattle.flow_syntax.specs.Scopes.{with_variable}
-use Rattle.flow_syntax.specs.Types.{typing_of}
 use Rattle.expr_sorts.specs.Plans.{argument_want}
 use Rattle.expr_sorts.specs.Scoping.{scope_of}
 use Rattle.expr_sorts.specs.Views.{telling_of, want_of}
 use Rattle.expr_sorts.proofs.Arguments.{arguments_next, each_next}
 use Rattle.expr_sorts.proofs.Finding.{got}
 use Rattle.expr_sorts.proofs.Forms.{checked_bind, checked_choose, checked_leaf, checked_map_of, checked_member, checked_three, checked_two, choose_ahead, condition_in, leaf_name, leaf_value, none_left, three_of, two_of}
-use Rattle.expr_sorts.proofs.Parts.{checked_apart, none_noted, same_types, types_behind, whole_checked}
+use Rattle.expr_sorts.proofs.Parts.{longer_by, none_noted, whole_checked}
 use Rattle.expr_sorts.proofs.walk.+check.Goals as goal
 use Rattle.expr_sorts.proofs.walk.+check.Goals.{check_choose-in-Some+in_ok-check_third, check_choose-in_default-condition}
 
@@ -22,14 +21,14 @@ pub check_bind-returns : goal.check_bind-returns
 check_bind-returns t c =
     let is = c.in-Bind.is ∙ ap (λ a. exprs.Bind c.in-Bind.name a c.in-Bind.body) (sym c.get.ensures) ∙ ap (exprs.Bind c.in-Bind.name c.get.result.now) (sym c.get-2.ensures) in
     checked_bind c.args.cx.now.spec.now (scope_of c.args.scope.now) (want_of c.args.want.now) c.args.expr.now c.in-Bind.name _ _ _ is c.in_ok-told.ensures
-    (c.in_ok-inner.ensures ∙ ap (with_variable (scope_of c.args.scope.now) c.in-Bind.name) c.flat_sort.ensures) c.in_ok-check_second.ensures
+    (c.inner_scope-inner.ensures ∙ ap (with_variable (scope_of c.args.scope.now) c.in-Bind.name) c.flat_sort.ensures) c.in_ok-check_second.ensures
 
 pub check_choose-returns : goal.check_choose-returns
 check_choose-returns t c =
     let is = c.in-Choose.is ∙ ap (λ a. exprs.Choose a c.in-Choose.name c.in-Choose.set c.in-Choose.condition) (sym c.get-2.ensures) ∙ ap (λ a. exprs.Choose c.get-2.result.now c.in-Choose.name a c.in-Choose.condition) (sym c.get.ensures) in
-    let scoped = c.in_ok-inner.ensures ∙ ap (with_variable (scope_of c.args.scope.now) c.in-Choose.name) c.set_sort.ensures in
-    let ahead = choose_ahead c.args.cx.now.spec.now (scope_of c.args.scope.now) (want_of c.args.want.now) c.args.expr.now {n = record { earliest = c.check_second.new.notes.earliest; types = c.append.new.self }} _ c.in-Choose.name _ _ _ _ is
-    c.in_ok-told.ensures scoped c.in_ok-check_second.ensures refl (types_behind _ _ _ c.in_ok-append.ensures.items) in
+    let scoped = c.inner_scope-inner.ensures ∙ ap (with_variable (scope_of c.args.scope.now) c.in-Choose.name) c.set_sort.ensures in
+    let ahead = choose_ahead c.args.cx.now.spec.now (scope_of c.args.scope.now) (want_of c.args.want.now) c.args.expr.now {n = record { earliest = c.check_second.new.notes.earliest; types = c.put_behind.new.types }} _ c.in-Choose.name _ _ _ _ _ is
+    c.count-start.ensures c.in_ok-told.ensures c.count-middle.ensures scoped c.in_ok-check_second.ensures refl c.put_behind.ensures in
     elim c.match-condition.branch [
       | check_choose-in-Some+in_ok-check_third w ↦
           let there = is ∙ ap (exprs.Choose c.get-2.result.now c.in-Choose.name c.get.result.now) (w.in-Some.is ∙ ap Some (sym w.get-in-Some.ensures)) in
@@ -45,12 +44,7 @@ check_choose-returns t c =
 pub check_member-returns : goal.check_member-returns
 check_member-returns t c =
     let is = c.in-Member.is ∙ ap (λ a. exprs.Member a c.in-Member.set) (sym c.get-2.ensures) ∙ ap (exprs.Member c.get-2.result.now) (sym c.get.ensures) in
-    checked_member c.args.cx.now.spec.now (scope_of c.args.scope.now) (want_of c.args.want.now) c.args.expr.now _ _ _ is c.in_ok-told.ensures c.in_ok-check_second.ensures refl (types_behind _ _ _ c.in_ok-append.ensures.items)
-
-pub check_apart-returns : goal.check_apart-returns
-check_apart-returns t c =
-    checked_apart c.args.cx.now.spec.now _ _ refl (same_types _ _ c.replace-before.ensures.after ∙ ap (map typing_of) c.new.ensures.items) c.in_ok-told.ensures refl (same_types _ _ (c.replace-apart.ensures.after ∙ c.replace-before.ensures.value))
-    (same_types _ _ c.replace-apart.ensures.value)
+    checked_member c.args.cx.now.spec.now (scope_of c.args.scope.now) (want_of c.args.want.now) c.args.expr.now _ _ _ _ is c.count-start.ensures c.in_ok-told.ensures c.count-middle.ensures c.in_ok-check_second.ensures refl c.put_behind.ensures
 
 pub check_arguments-loop-at-init : goal.check_arguments-loop-at-init
 check_arguments-loop-at-init t c = none_noted c.args.cx.now.spec.now c.args.notes.now
