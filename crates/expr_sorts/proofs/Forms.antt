@@ -119,6 +119,15 @@ none_left (Some x) h = absurd (h x refl)
 at_want : {spec : Spec} {o n : Notes} {t : Telling} (s : Scope) (w v : Want) (e : Expr) → w ≡ v → IsChecked spec (place s w e) o n t → IsNoted spec (place s v e) o n
 at_want {spec} {o} {n} s w v e same h = subst (λ (x : Want). IsNoted spec (place s x e) o n) same h.noted
 
+-- a condition that isn't there, and one that is
+module _ (spec : Spec) (s : Scope) (w : Want) (c : Option Expr) where
+  pub none_there : {o : Notes} → c ≡ None → AreNoted spec (optional s w c) o o
+  none_there {o} is = subst (λ (x : Option Expr). AreNoted spec (optional s w x) o o) (sym is) (none_noted spec o)
+
+  pub one_there : {o n : Notes} (a b : Expr) → c ≡ Some a → b ≡ a → IsNoted spec (place s w b) o n → AreNoted spec (optional s w c) o n
+  one_there {o} {n} a b is same g =
+      subst (λ (x : Option Expr). AreNoted spec (optional s w x) o n) (ap Some same ∙ sym is) (part_noted spec (place s w b) g)
+
 module _ (spec : Spec) (s : Scope) (w : Want) (e : Expr) where
   -- by the parts and the telling
   pub checked_as : {o n : Notes} (ps : List Place) (answer : Telling) → parts_in spec s w (expr_layer e) ≡ ps → AreNoted spec ps o n → answer ≡ form_telling spec s (told_parts spec s (expr_layer e))
@@ -217,8 +226,8 @@ module _ (spec : Spec) (s : Scope) (w : Want) (e : Expr) where
       (parts_noted spec (place (with_variable s x (set_sort (told spec s from))) (element_want w) a ∷ place s (source_want w) from ∷ []) (optional (with_variable s x (set_sort (told spec s from))) truth_want c) h j) refl
 
   -- the condition of a set that is chosen from another one
-  pub condition_in : {n k : Notes} (t : Telling) (a : Expr) (x : List ℕ) (from c : Expr) (si : Scope) → (out-Expr e).kind ≡ exprs.Choose a x from (Some c) → t ≡ told spec s from → si ≡ with_variable s x (set_sort t)
-      → IsNoted spec (place si (third_part_want w t (expr_layer e)) c) n k → AreNoted spec (optional (with_variable s x (set_sort (told spec s from))) truth_want (Some c)) n k
-  condition_in t a x from c si is tells scoped g =
-      part_noted spec (place (with_variable s x (set_sort (told spec s from))) truth_want c)
-      (inside si x (set_sort t) (set_sort (told spec s from)) _ truth_want c scoped (ap set_sort tells) (ap (third_part_want w t) (ap out-ExprKind is ∙ layer_of_choose a x from (Some c))) g)
+  pub condition_in : {n k : Notes} (t : Telling) (a : Expr) (x : List ℕ) (from : Expr) (c : Option Expr) (si : Scope) → (out-Expr e).kind ≡ exprs.Choose a x from c → t ≡ told spec s from → si ≡ with_variable s x (set_sort t)
+      → AreNoted spec (optional si (third_part_want w t (expr_layer e)) c) n k → AreNoted spec (optional (with_variable s x (set_sort (told spec s from))) truth_want c) n k
+  condition_in {n} {k} t a x from c si is tells scoped g =
+      subst (λ (y : Want). AreNoted spec (optional (with_variable s x (set_sort (told spec s from))) y c) n k) (ap (third_part_want w t) (ap out-ExprKind is ∙ layer_of_choose a x from c))
+      (subst (λ (y : Scope). AreNoted spec (optional y (third_part_want w t (expr_layer e)) c) n k) (scoped ∙ ap (λ y. with_variable s x (set_sort y)) tells) g)

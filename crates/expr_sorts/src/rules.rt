@@ -44,7 +44,10 @@ fn push_variable<'a>(
 /// Adds the variables of a pattern, in the order of the text.
 #[cycle(variables)]
 #[tactic(auto, using(crate::proofs::Patterns::variables_out))]
-fn push_variables<'a>(pattern: &'a Pattern, out: &mut Vec<PatternVariable<'a>>) -> Result<(), AllocError>
+fn push_variables<'a>(
+    pattern: &'a Pattern,
+    out: &mut Vec<PatternVariable<'a>>,
+) -> Result<(), AllocError>
     ensures { OnOk result (map pattern_variable out.new.items ≡ map pattern_variable out.old.items ++ map bound_variable (bound_in pattern.now)) }
 {
     match &pattern.kind {

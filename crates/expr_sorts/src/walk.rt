@@ -4,7 +4,7 @@ ghost use Rattle.std.specs.Option.{option_copied};
 ghost use Rattle.flow_syntax.specs.declared.expr.ExprKind.{out-ExprKind};
 ghost use Rattle.flow_syntax.specs.Scopes.{with_variable};
 ghost use Rattle.flow_syntax.specs.Telling.{function_named};
-ghost use Rattle.flow_syntax.specs.ExprPlaces.{arguments, declared_arguments, place};
+ghost use Rattle.flow_syntax.specs.ExprPlaces.{arguments, declared_arguments, optional, place};
 ghost use Rattle.spec_names.specs.Tables.{AreNames};
 ghost use Rattle.expr_sorts.specs.Checked.{HasCheckedParts, IsBind, IsChecked, IsChoose, IsMember};
 ghost use Rattle.expr_sorts.specs.Noted.{AreNoted, IsNoted};
@@ -23,7 +23,7 @@ use crate::telling::{Telling, flat_sort, set_sort};
 use crate::types::copy_named;
 use crate::want::{Want, element_want, free, key_want, value_want};
 use flow_syntax::{ElemSort, Expr, ExprKind, ExprType, LatticeType, Named};
-use flow_term::Text;
+use flow_term::{Boxed, Text};
 use std::alloc::{AllocError, Global};
 
 /// What those that need the type of an expression are told, where its form tells this.
@@ -63,11 +63,7 @@ fn argument_want(declared: Option<&Named>) -> Result<Want, AllocError>
 }
 
 /// The scope around, with one more variable.
-fn inner_scope<'a>(
-    scope: &'a Scope<'a>,
-    name: &'a Text,
-    sort: Option<&'a ElemSort>,
-) -> Scope<'a>
+fn inner_scope<'a>(scope: &'a Scope<'a>, name: &'a Text, sort: Option<&'a ElemSort>) -> Scope<'a>
     ensures { scope_of result ≡ with_variable (scope_of scope.now) name.now (sort_in sort.entry) }
 {
     Scope::Inner(scope, Variable { name, sort })
@@ -264,10 +260,28 @@ fn check_choose(
     let inner = inner_scope(&*scope, name, set_sort(&told));
     check_second(element.get(), cx, &inner, kind, want, &told, notes)?;
     put_behind(&mut notes.types, start, middle);
-    if let Some(condition) = condition {
-        check_third(condition.get(), cx, &inner, kind, want, &told, notes)?;
-    }
+    check_condition(condition, cx, &inner, kind, want, &told, notes)?;
     Ok(Telling::Untold)
+}
+
+/// Checks the condition on the elements of a set, if there is one, where this is told of the set.
+#[cycle(check)]
+fn check_condition(
+    condition: &Option<Boxed<Expr>>,
+    cx: &Context<'_>,
+    scope: &Scope<'_>,
+    kind: &ExprKind,
+    want: &Want,
+    told: &Telling,
+    notes: &mut Notes,
+) -> Result<(), AllocError>
+    requires { AreNames cx.now.spec.now cx.now.names.now }
+    ensures { OnOk result (AreNoted cx.now.spec.now (optional (scope_of scope.now) (third_part_want (want_of want.now) (telling_of told.now) (out-ExprKind kind.now)) condition.now) notes.old notes.new) }
+{
+    match condition {
+        Some(condition) => check_third(condition.get(), cx, scope, kind, want, told, notes),
+        None => Ok(()),
+    }
 }
 
 /// Checks the parts of an expression that names the element of a flat value.

@@ -8,6 +8,7 @@ ghost use Rattle.flow_syntax.specs.Types.{typing_of};
 ghost use Rattle.flow_syntax.specs.Accepted.{HasIdentifiers, IsWellFormed};
 ghost use Rattle.flow_syntax.specs.Faults.{HasFault, HasNoFault};
 ghost use Rattle.flow_syntax.specs.declared.fault.SpecFaultKind.{SpecFaultKind as Kind};
+ghost use Rattle.spec_names.specs.Tables.{AreNames};
 
 use crate::refusal::SpecRefusal;
 use decl_sorts::{check_declarations, directions};
@@ -16,7 +17,7 @@ use expr_sorts::check_expressions;
 use flow_syntax::{Direction, ExprType, Spec, TypedSpec};
 use flow_term::List;
 use rule_sorts::{check_rules, check_variables};
-use spec_names::names_of;
+use spec_names::{Names, names_of};
 use std::alloc::{AllocError, Global};
 
 /// The directions of the properties, and the types with which the expressions are listed.
@@ -58,10 +59,25 @@ fn look_for_faults(alloc: Global, spec: &Spec, earliest: &mut Earliest) -> Resul
     ensures types { IfOk result (λ told. AreListed spec.now (wholes_of spec.now) (map typing_of told.types)) }
 {
     let names = names_of(alloc, spec)?;
-    check_declarations(alloc, spec, &names, earliest)?;
-    check_rules(alloc, spec, &names, earliest)?;
-    check_variables(alloc, spec, &names, earliest)?;
-    let types = check_expressions(alloc, spec, &names, earliest)?;
-    let directions = directions(alloc, spec, &names)?;
+    look_by_names(alloc, spec, &names, earliest)
+}
+
+/// The same, with the names of the specification.
+fn look_by_names(
+    alloc: Global,
+    spec: &Spec,
+    names: &Names<'_>,
+    earliest: &mut Earliest,
+) -> Result<Told, AllocError>
+    requires { AreNames spec.now names.now }
+    ensures gathers { OnOk result (Gathers earliest.old earliest.new (HasFault spec.now)) }
+    ensures directions { IfOk result (λ told. told.directions ≡ directions_of spec.now) }
+    ensures types { IfOk result (λ told. AreListed spec.now (wholes_of spec.now) (map typing_of told.types)) }
+{
+    check_declarations(alloc, spec, names, earliest)?;
+    check_rules(alloc, spec, names, earliest)?;
+    check_variables(alloc, spec, names, earliest)?;
+    let types = check_expressions(alloc, spec, names, earliest)?;
+    let directions = directions(alloc, spec, names)?;
     Ok(Told { directions, types })
 }

@@ -1,5 +1,5 @@
 use Rattle.std.proofs.Common.{None, Some, map, refl, sym, ap, ◌∙◌}
-use Rattle.std.proofs.lemmas.Result.{IfOk-weaker}
+use Rattle.std.proofs.lemmas.Result.{IfOk-weaker, on_ok_weaker}
 use Rattle.flow_syntax.specs.declared.expr.ExprKind.TheVariants as exprs
 use Rattle.flow_syntax.specs.Scopes.{with_variable}
 use Rattle.expr_sorts.specs.Plans.{argument_want}
@@ -7,10 +7,9 @@ use Rattle.expr_sorts.specs.Scoping.{scope_of}
 use Rattle.expr_sorts.specs.Views.{telling_of, want_of}
 use Rattle.expr_sorts.proofs.Arguments.{arguments_next, each_next}
 use Rattle.expr_sorts.proofs.Finding.{got}
-use Rattle.expr_sorts.proofs.Forms.{checked_bind, checked_choose, checked_leaf, checked_map_of, checked_member, checked_three, checked_two, choose_ahead, condition_in, leaf_name, leaf_value, none_left, three_of, two_of}
+use Rattle.expr_sorts.proofs.Forms.{checked_bind, checked_choose, checked_leaf, checked_map_of, checked_member, checked_three, checked_two, choose_ahead, condition_in, leaf_name, leaf_value, none_there, one_there, three_of, two_of}
 use Rattle.expr_sorts.proofs.Parts.{longer_by, none_noted, whole_checked}
 use Rattle.expr_sorts.proofs.walk.+check.Goals as goal
-use Rattle.expr_sorts.proofs.walk.+check.Goals.{check_choose-in-Some+in_ok-check_third, check_choose-in_default-condition}
 
 pub check-returns : goal.check-returns
 check-returns t c =
@@ -29,17 +28,14 @@ check_choose-returns t c =
     let scoped = c.inner_scope-inner.ensures ∙ ap (with_variable (scope_of c.args.scope.now) c.in-Choose.name) c.set_sort.ensures in
     let ahead = choose_ahead c.args.cx.now.spec.now (scope_of c.args.scope.now) (want_of c.args.want.now) c.args.expr.now {n = record { earliest = c.check_second.new.notes.earliest; types = c.put_behind.new.types }} _ c.in-Choose.name _ _ _ _ _ is
     c.count-start.ensures c.in_ok-told.ensures c.count-middle.ensures scoped c.in_ok-check_second.ensures refl c.put_behind.ensures in
-    elim c.match-condition.branch [
-      | check_choose-in-Some+in_ok-check_third w ↦
-          let there = is ∙ ap (exprs.Choose c.get-2.result.now c.in-Choose.name c.get.result.now) (w.in-Some.is ∙ ap Some (sym w.get-in-Some.ensures)) in
-          rw w.notes-is
-          (checked_choose c.args.cx.now.spec.now (scope_of c.args.scope.now) (want_of c.args.want.now) c.args.expr.now _ c.in-Choose.name _ (Some w.get-in-Some.result.now) there ahead
-          (condition_in c.args.cx.now.spec.now (scope_of c.args.scope.now) (want_of c.args.want.now) c.args.expr.now _ _ c.in-Choose.name _ _ _ there c.in_ok-told.ensures.tells scoped w.in_ok-check_third.ensures))
-      | check_choose-in_default-condition w ↦
-          let there = is ∙ ap (exprs.Choose c.get-2.result.now c.in-Choose.name c.get.result.now) (none_left _ w.in_default-condition.not-Some) in
-          rw w.notes-is
-          (checked_choose c.args.cx.now.spec.now (scope_of c.args.scope.now) (want_of c.args.want.now) c.args.expr.now _ c.in-Choose.name _ None there ahead (none_noted c.args.cx.now.spec.now _))
-    ]
+    checked_choose c.args.cx.now.spec.now (scope_of c.args.scope.now) (want_of c.args.want.now) c.args.expr.now _ c.in-Choose.name _ c.in-Choose.condition is ahead
+    (condition_in c.args.cx.now.spec.now (scope_of c.args.scope.now) (want_of c.args.want.now) c.args.expr.now _ _ c.in-Choose.name _ c.in-Choose.condition _ is c.in_ok-told.ensures.tells scoped c.in_ok-check_condition.ensures)
+
+pub check_condition-returns-in-None : goal.check_condition-returns-in-None
+check_condition-returns-in-None t c = none_there c.args.cx.now.spec.now (scope_of c.args.scope.now) _ c.args.condition.now c.in-None.is
+
+pub check_condition-returns-in-Some : goal.check_condition-returns-in-Some
+check_condition-returns-in-Some t c = on_ok_weaker c.check_third.result (one_there c.args.cx.now.spec.now (scope_of c.args.scope.now) _ c.args.condition.now _ _ c.in-Some.is c.get.ensures) c.check_third.ensures
 
 pub check_member-returns : goal.check_member-returns
 check_member-returns t c =

@@ -1,5 +1,5 @@
 use Rattle.flow_sorts.proofs.Wholes.{all_gathered}
-use Rattle.flow_sorts.proofs.check.look_for_faults.Goals as goal
+use Rattle.flow_sorts.proofs.check.look_by_names.Goals as goal
 
 pub returns-clause-gathers : goal.returns-clause-gathers
 returns-clause-gathers c =
