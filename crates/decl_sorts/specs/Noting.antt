@@ -1,4 +1,4 @@
--- Faults where something holds, of names that aren't declared, and of the items of a list.
+-- Faults of names that aren't declared, and of the items of a list.
 use Rattle.std.specs.Prelude.{◌≡◌, ℕ, Bool, false, List, Contains, is_some}
 use Rattle.flow_syntax.specs.declared.fault.SpecFaultKind.{SpecFaultKind}
 use Rattle.flow_syntax.specs.declared.fault.SpecFaultKind.TheVariants as kinds
