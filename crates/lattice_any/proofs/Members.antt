@@ -1,15 +1,10 @@
 -- Whether a value is one of a lattice, by the lattice's case.
-use Rattle.std.proofs.Common.{◌≡◌, ◌↔◌, ℕ, ◌+◌, ◌<◌, ◌≤◌, get_or, take, Bool, true, false, List, [], ◌∷◌, length, Some, refl, sym, ap, ◌∙◌, subst}
-use Rattle.std.specs.Prelude.{All, slice_get}
-use Rattle.std.specs.declared.cmp.Ordering.{Ordering}
-use Rattle.std.specs.declared.cmp.Ordering.TheVariants.{Less, Equal, Greater}
-use Rattle.std.specs.Ordering.{is_lt}
+use Rattle.std.proofs.Common.{◌≡◌, ◌↔◌, ℕ, ◌+◌, ◌<◌, ◌≤◌, get_or, take, Bool, true, false, List, [], ◌∷◌, length, refl, sym, ap, ◌∙◌, subst}
+use Rattle.std.specs.Prelude.{All}
 use Rattle.std.specs.Map.{keys_of, values_of}
+use Rattle.std.proofs.lemmas.Bool.{both_ways}
 use Rattle.std.proofs.lemmas.List.{take_all}
 use Rattle.std.proofs.lemmas.List.Elements.{All-nil, All-cons, All-head, All-tail, All-more}
-use Rattle.flow_term.specs.contracts.elem.ElemOrd.TheImpl as order
-use Rattle.flow_term.specs.ElementsLaws.{elements_ordered}
-use Rattle.lattice_sets.proofs.Merges.{empty_list}
 use Rattle.std.specs.List.Sorted.{IsStrictlySortedBy}
 use Rattle.flow_term.specs.declared.elem.Elem.{Elem}
 use Rattle.flow_term.specs.declared.value.Value.{Value, Value-F, out-Value}
@@ -17,37 +12,15 @@ use Rattle.flow_term.specs.declared.value.Value.TheVariants as value
 use Rattle.flow_term.specs.declared.value.Entry.{Entry}
 use Rattle.flow_term.specs.Elements.{elem_cmp}
 use Rattle.flow_syntax.specs.declared.types.ElemSort.{ElemSort}
-use Rattle.lattice_sets.specs.SetLaws.{Above, above_lower, rising_nothing}
 use Rattle.lattice_sets.proofs.MapMerges.{answer_no}
 use Rattle.lattice_any.specs.declared.any.AnyL.{AnyL}
 use Rattle.lattice_any.specs.declared.any.AnyL.TheVariants as any
-use Rattle.lattice_any.specs.Elements.{elem_total}
 use Rattle.flow_syntax.specs.Types.{Sort, Lattice, may, must, flat, map_to, pair_of, sort_of}
 use Rattle.flow_syntax.specs.Lattices.{ValueLayer, IsValueOf, least_of, Valid, bottom_of, IsMay, IsMust, IsFlat, IsMapOf, IsMapTo, IsOfSort, IsPairOf, pairs_of}
-use Rattle.lattice_any.specs.Members.{IsBelowFirst}
 use Rattle.lattice_any.specs.Types.{type_of}
+use Rattle.value_text.specs.Texts.{keys}
 use Rattle.lattice_any.proofs.AtTypes.{lattice, is_may, is_must, is_flat, is_map, is_pair}
 use Rattle.lattice_any.proofs.FlatJoins.{layer_of}
-
--- -- rising lists
-
-above_first : (x : Elem) (xs : List Elem) → IsStrictlySortedBy elem_cmp xs → IsBelowFirst x xs → Above elem_cmp x xs
-unfolding IsStrictlySortedBy
-above_first x [] h b = tt
-above_first x (y ∷ ys) h b = (b, above_lower elem_cmp elem_total x y ys b h.0)
-
-first_above : (x : Elem) (xs : List Elem) → IsStrictlySortedBy elem_cmp (x ∷ xs) → IsBelowFirst x xs
-unfolding IsStrictlySortedBy
-first_above x [] h = tt
-first_above x (y ∷ ys) h = h.0.0
-
-pub rising_step : (x : Elem) (xs rest : List Elem) → rest ≡ x ∷ xs → IsBelowFirst x xs → IsStrictlySortedBy elem_cmp xs ↔ IsStrictlySortedBy elem_cmp rest
-unfolding IsStrictlySortedBy
-rising_step x xs rest e b =
-    (λ h. subst (IsStrictlySortedBy elem_cmp) (sym e) (above_first x xs h b, h), λ h. let whole : IsStrictlySortedBy elem_cmp (x ∷ xs) = subst (IsStrictlySortedBy elem_cmp) e h in whole.1)
-
-pub rising_fails : (x : Elem) (xs rest : List Elem) → rest ≡ x ∷ xs → (IsBelowFirst x xs → ⊥) → IsStrictlySortedBy elem_cmp rest → ⊥
-rising_fails x xs rest e not h = not (first_above x xs (subst (IsStrictlySortedBy elem_cmp) e h))
 
 -- -- one of a lattice
 
@@ -112,31 +85,21 @@ pub no_least : (l left right : AnyL) (v : Value) → l ≡ any.Pair left right �
 no_least l left right v e none =
     answer_no (λ h. h, λ h. h) (λ j. none (bottom_of (type_of left)) (bottom_of (type_of right)) (j ∙ ap least_of (is_pair l left right e)))
 
--- -- first elements
-
-lt_is : (o : Ordering) → (is_lt o ≡ true) ↔ (o ≡ Less)
-lt_is Less = (λ h. refl, λ h. refl)
-lt_is Equal = (λ h. cc, λ h. cc)
-lt_is Greater = (λ h. cc, λ h. cc)
-
-pub below_head : (x y : Elem) (xs : List Elem) (o : Ordering) (r : Bool) → Some y ≡ slice_get xs 0 → o ≡ order.ghosts.cmp x y → r ≡ is_lt o → (r ≡ true) ↔ IsBelowFirst x xs
-below_head x y [] o r e f g = absurd cc
-below_head x y (z ∷ zs) o r e f g =
-    let same : y ≡ z = cc in
-    let is : o ≡ elem_cmp x z = f ∙ elements_ordered x y ∙ ap (elem_cmp x) same in
-    (λ h. sym is ∙ (lt_is o).0 (sym g ∙ h), λ h. g ∙ (lt_is o).1 (is ∙ h))
-
-head_key : (e : Entry) (es : List Entry) → Some e ≡ slice_get es 0 → Some e.key ≡ slice_get (keys_of (pairs_of es)) 0
-head_key e [] h = absurd cc
-head_key e (d ∷ ds) h = let same : e ≡ d = cc in ap (λ x. Some x.key) same
-
-pub below_head_key : (x : Elem) (e : Entry) (es : List Entry) (o : Ordering) (r : Bool) → Some e ≡ slice_get es 0 → o ≡ order.ghosts.cmp x e.key → r ≡ is_lt o → (r ≡ true) ↔ IsBelowFirst x (keys_of (pairs_of es))
-below_head_key x e es o r h f g = below_head x e.key (keys_of (pairs_of es)) o r (head_key e es h) f g
-
-pub rising_empty : (xs : List Elem) → length xs ≡ 0 → IsStrictlySortedBy elem_cmp xs
-rising_empty xs h = subst (IsStrictlySortedBy elem_cmp) (sym (empty_list xs h)) (rising_nothing elem_cmp elem_total)
-
 -- -- keys and values of entries
+
+same_keys : (es : List Entry) → keys es ≡ keys_of (pairs_of es)
+same_keys [] = refl
+same_keys (e ∷ es) = ap (λ (ks : List Elem). e.key ∷ ks) (same_keys es)
+
+pub keys_above : (es : List Entry) → IsStrictlySortedBy elem_cmp (keys es) → IsStrictlySortedBy elem_cmp (keys_of (pairs_of es))
+keys_above es h = subst (IsStrictlySortedBy elem_cmp) (same_keys es) h
+
+pub keys_below : (es : List Entry) → IsStrictlySortedBy elem_cmp (keys_of (pairs_of es)) → IsStrictlySortedBy elem_cmp (keys es)
+keys_below es h = subst (IsStrictlySortedBy elem_cmp) (sym (same_keys es)) h
+
+-- what is false where P isn't
+pub no_answer : (P : Type 0) (r : Bool) → r ≡ false → (P → ⊥) → (r ≡ true) ↔ P
+no_answer P r is none = (λ h. absurd (both_ways r is h), λ p. absurd (none p))
 
 keys_from : (P : Elem → Type 0) (es : List Entry) → All (λ e. P e.key) es → All P (keys_of (pairs_of es))
 keys_from P [] h = All-nil P

@@ -1,18 +1,17 @@
 //! Which values a lattice has. Nothing here takes memory.
 ghost use Rattle.std.specs.Prelude.{◌≡◌, ◌↔◌, [], IsTrue, All};
-ghost use Rattle.std.specs.List.Sorted.{IsStrictlySortedBy};
 ghost use Rattle.std.specs.Map.{keys_of, values_of};
-ghost use Rattle.flow_term.specs.Elements.{elem_cmp};
 ghost use Rattle.flow_term.specs.declared.value.Value.{out-Value};
 ghost use Rattle.flow_term.specs.declared.value.Value.TheVariants.{Bottom, Map, Set, Unreached};
 ghost use Rattle.flow_syntax.specs.Types.{sort_of};
 ghost use Rattle.flow_syntax.specs.Lattices.{IsFlat, IsMapOf, IsMay, IsMust, IsOfSort, IsSetOf, Valid, bottom_of, is_of_sort, pairs_of};
-ghost use Rattle.lattice_any.specs.Members.{IsBelowFirst, IsKeptIn};
+ghost use Rattle.lattice_any.specs.Members.{IsKeptIn};
 ghost use Rattle.lattice_any.specs.Types.{type_of};
 
 use crate::any::AnyL;
 use flow_syntax::ElemSort;
 use flow_term::{Elem, Entry, Value};
+use value_text::{elems_rise, keys_rise};
 
 /// Whether the element is of the sort.
 fn has_sort(sort: &ElemSort, elem: &Elem) -> bool
@@ -38,35 +37,11 @@ fn have_sort(sort: &ElemSort, elems: &[Elem]) -> bool
     elems.iter().all(|elem| has_sort(sort, elem))
 }
 
-/// Whether the element is below the first of the others.
-fn is_below_first(elem: &Elem, others: &[Elem]) -> bool
-    ensures { IsTrue result ↔ IsBelowFirst elem.now others.now }
-{
-    match others.first() {
-        Some(first) => elem.cmp(first).is_lt(),
-        None => true,
-    }
-}
-
-/// Whether the elements rise strictly.
-fn is_rising(elems: &[Elem]) -> bool
-    ensures { IsTrue result ↔ IsStrictlySortedBy elem_cmp elems.now }
-{
-    let mut rest = elems;
-    while let Some((elem, others)) = rest.split_first() {
-        if !is_below_first(elem, others) {
-            return false;
-        }
-        rest = others;
-    }
-    true
-}
-
 /// Whether the elements are a set of the sort.
 fn is_set(sort: &ElemSort, elems: &[Elem]) -> bool
     ensures { IsTrue result ↔ IsSetOf (sort_of sort.now) elems.now }
 {
-    is_rising(elems) && have_sort(sort, elems)
+    elems_rise(elems) && have_sort(sort, elems)
 }
 
 fn is_may(sort: &ElemSort, value: &Value) -> bool
@@ -142,30 +117,6 @@ fn is_least(lattice: &AnyL, value: &Value) -> bool
             _ => false,
         },
     }
-}
-
-/// Whether the key is below the first of the others.
-fn is_below_first_key(key: &Elem, others: &[Entry]) -> bool
-    ensures { IsTrue result ↔ IsBelowFirst key.now (keys_of (pairs_of others.now)) }
-{
-    match others.first() {
-        Some(first) => key.cmp(&first.key).is_lt(),
-        None => true,
-    }
-}
-
-/// Whether the keys rise strictly.
-fn keys_rise(entries: &[Entry]) -> bool
-    ensures { IsTrue result ↔ IsStrictlySortedBy elem_cmp (keys_of (pairs_of entries.now)) }
-{
-    let mut rest = entries;
-    while let Some((entry, others)) = rest.split_first() {
-        if !is_below_first_key(&entry.key, others) {
-            return false;
-        }
-        rest = others;
-    }
-    true
 }
 
 /// Whether each key is of the sort.

@@ -58,8 +58,8 @@ fn is_below_first(elem: &Elem, others: &[Elem]) -> bool
     }
 }
 
-/// Whether the elements rise strictly.
-fn elems_rise(elems: &[Elem]) -> bool
+/// Whether the elements rise strictly. Takes no memory.
+pub fn elems_rise(elems: &[Elem]) -> bool
     ensures { IsTrue result ↔ IsStrictlySortedBy elem_cmp elems.now }
 {
     let mut rest = elems;
@@ -82,8 +82,8 @@ fn is_below_first_key(key: &Elem, others: &[Entry]) -> bool
     }
 }
 
-/// Whether the keys rise strictly.
-fn keys_rise(entries: &[Entry]) -> bool
+/// Whether the keys rise strictly. Takes no memory.
+pub fn keys_rise(entries: &[Entry]) -> bool
     ensures { IsTrue result ↔ IsStrictlySortedBy elem_cmp (keys entries.now) }
 {
     let mut rest = entries;

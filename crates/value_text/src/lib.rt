@@ -12,7 +12,7 @@ mod refusal;
 mod values;
 mod writer;
 
-pub use form::has_text;
+pub use form::{elems_rise, has_text, keys_rise};
 pub use laws::texts_have_one_value;
 pub use reader::read_value;
 pub use refusal::ValueRefusal;

@@ -1,7 +1,7 @@
 use Rattle.std.proofs.Common.{refl, sym, ap, ◌∙◌}
 use Rattle.flow_term.specs.declared.value.Value.TheVariants as value
 use Rattle.lattice_any.specs.declared.any.AnyL.TheVariants as any
-use Rattle.lattice_any.proofs.Members.{all_taken, map_answer, one_more, may_member, must_member, flat_member, map_member, no_map, pair_member, no_pair}
+use Rattle.lattice_any.proofs.Members.{all_taken, map_answer, one_more, may_member, must_member, flat_member, keys_above, keys_below, map_member, no_answer, no_map, pair_member, no_pair}
 use Rattle.lattice_any.proofs.Orders.{both_answers, first_answer}
 use Rattle.std.proofs.lemmas.Bool.{both_ways}
 use Rattle.lattice_any.specs.Members.{IsKeptIn}
@@ -43,9 +43,15 @@ is_value-returns-in_default-value t c = no_pair _ _ _ _ c.in-Pair.is c.in_defaul
 
 pub is_map-returns-then-keys_have_sort : goal.is_map-returns-then-keys_have_sort
 is_map-returns-then-keys_have_sort t c = elim c.if-keys_rise.branch [
-  | is_map-then-keys_rise w ↦ map_answer _ _ _ _ _ (c.keys_rise.ensures.0 w.if-keys_rise.true) (w.keys_have_sort.ensures.0 (sym w.value-is ∙ c.if-keys_have_sort.true)) c.are_kept.ensures
+  | is_map-then-keys_rise w ↦ map_answer _ _ _ _ _ (keys_above _ (c.keys_rise.ensures.0 w.if-keys_rise.true)) (w.keys_have_sort.ensures.0 (sym w.value-is ∙ c.if-keys_have_sort.true)) c.are_kept.ensures
   | is_map-else-keys_rise w ↦ absurd (both_ways _ (w.value-is ∙ w.if-keys_rise.false) c.if-keys_have_sort.true)
 ]
+
+pub is_map-returns-else-keys_have_sort : goal.is_map-returns-else-keys_have_sort
+is_map-returns-else-keys_have_sort t c = no_answer _ _ c.if-keys_have_sort.false (λ m. elim c.if-keys_rise.branch [
+  | is_map-then-keys_rise w ↦ both_ways _ (sym w.value-is ∙ c.if-keys_have_sort.false) (w.keys_have_sort.ensures.1 m.sorts)
+  | is_map-else-keys_rise w ↦ both_ways _ w.if-keys_rise.false (c.keys_rise.ensures.1 (keys_below _ m.rising))
+])
 
 pub are_kept-loop-entry-preserved : goal.are_kept-loop-entry-preserved
 are_kept-loop-entry-preserved t c =
