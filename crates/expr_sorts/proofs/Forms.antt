@@ -1,25 +1,25 @@
 -- Each form of expression: its parts in the order in which they are checked, and what it tells.
-use Rattle.std.proofs.Common.{◌≡◌, ℕ, List, [], ◌∷◌, ◌++◌, length, map, Option, Some, None, refl, sym, ap, subst, ◌∙◌, inl, inr}
+use Rattle.std.proofs.Common.{◌≡◌, ℕ, List, [], ◌∷◌, length, map, Option, Some, None, refl, sym, ap, subst, ◌∙◌, inl, inr}
 use Rattle.std.specs.Prelude.{◌⊎◌, ℤ, Bool}
 use Rattle.flow_syntax.specs.declared.expr.ArithOp.{ArithOp}
 use Rattle.flow_syntax.specs.declared.expr.CompareOp.{CompareOp}
 use Rattle.flow_syntax.specs.declared.expr.Expr.{Expr, out-Expr}
-use Rattle.flow_syntax.specs.declared.expr.ExprKind.{ExprKind, out-ExprKind}
+use Rattle.flow_syntax.specs.declared.expr.ExprKind.{ExprKind, out-ExprKind, roll-ExprKind, roll-out-ExprKind}
 use Rattle.flow_syntax.specs.declared.expr.ExprKind.TheOpen.{ExprKind-F}
 use Rattle.flow_syntax.specs.declared.expr.ExprKind.TheVariants as exprs
 use Rattle.flow_syntax.specs.declared.expr.SetOp.{SetOp}
 use Rattle.flow_syntax.specs.declared.expr.Side.{Side}
 use Rattle.flow_syntax.specs.declared.spec.Spec.{Spec}
 use Rattle.flow_syntax.specs.Expressions.{ExprLayer, expr_layer}
-use Rattle.flow_syntax.specs.Types.{Sort, Typing, truth, any_flat, any_set}
+use Rattle.flow_syntax.specs.Types.{Sort, truth, any_flat, any_set}
 use Rattle.flow_syntax.specs.Scopes.{Scope, with_variable}
 use Rattle.flow_syntax.specs.Telling.{Telling, is as told_as, untold, told, told_parts, form_telling, set_sort, flat_sort}
 use Rattle.flow_syntax.specs.Wants.{Want, told_in, known_sort, source_want, element_want, key_want, value_want, same_want}
 use Rattle.flow_syntax.specs.ExprPlaces.{Place, place, parts_in, truth_want, optional}
 use Rattle.flow_syntax.proofs.ExprLayers.{layer_of_int, layer_of_str, layer_of_truth, layer_of_bottom, layer_of_top, layer_of_unreached, layer_of_ident, layer_of_read, layer_of_both, layer_of_choose, layer_of_map_of, layer_of_look, layer_of_update, layer_of_set2, layer_of_arith, layer_of_compare, layer_of_member, layer_of_and, layer_of_or, layer_of_bind, layer_of_if}
 use Rattle.expr_sorts.specs.declared.notes.Notes.{Notes}
-use Rattle.expr_sorts.specs.Noted.{IsNoted, AreNoted, noted_types, put_behind}
-use Rattle.expr_sorts.specs.Plans.{first_part_want, second_part_want, third_part_want, leaf_telling, tell_two}
+use Rattle.expr_sorts.specs.Noted.{IsNoted, AreNoted, IsNotedBefore, noted_types}
+use Rattle.expr_sorts.specs.Plans.{first_part_want, second_part_want, third_part_want, leaf_telling, tell_made, tell_two}
 use Rattle.expr_sorts.specs.Checked.{IsChecked, HasCheckedParts}
 use Rattle.expr_sorts.proofs.Parts.{none_noted, part_ahead, part_noted, part_noted_then, parts_noted}
 
@@ -111,15 +111,29 @@ three_of k a b c x y z p q r is =
     by (inl h) = three_update k a b c h
     by (inr h) = three_if k a b c h
 
+layer_of : (k : ExprKind) (layer : ExprLayer) → out-ExprKind k ≡ layer → k ≡ roll-ExprKind layer
+layer_of k layer e = sym (roll-out-ExprKind k) ∙ ap roll-ExprKind e
+
+-- a form that doesn't have the type of its first part
+pub made_alone : (t u : Telling) (k : ExprKind) → ((a b c : Expr) → k ≡ exprs.Update a b c → ⊥) → ((o : SetOp) (a b : Expr) → k ≡ exprs.Set2 o a b → ⊥) → tell_made t u (out-ExprKind k) ≡ tell_two t u (out-ExprKind k)
+made_alone t u k not_update not_set = by (out-ExprKind k) refl
+  where
+    by : (layer : ExprLayer) → out-ExprKind k ≡ layer → tell_made t u layer ≡ tell_two t u layer
+    by (ExprKind-F.Update a b c) e = absurd (not_update a b c (layer_of k (ExprKind-F.Update a b c) e ∙ exprs.rolls-Update a b c))
+    by (ExprKind-F.Set2 o a b) e = absurd (not_set o a b (layer_of k (ExprKind-F.Set2 o a b) e ∙ exprs.rolls-Set2 o a b))
+    by _ e = refl
+
 pub none_left : {X : Type 0} (o : Option X) → ((x : X) → o ≡ Some x → ⊥) → o ≡ None
 none_left None h = refl
 none_left (Some x) h = absurd (h x refl)
 
 -- what is noted of a part, of which something else of the same meaning is wanted
-at_want : {spec : Spec} {o n : Notes} {t : Telling} (s : Scope) (w v : Want) (e : Expr) → w ≡ v → IsChecked spec (place s w e) o n t → IsNoted spec (place s v e) o n
-at_want {spec} {o} {n} s w v e same h = subst (λ (x : Want). IsNoted spec (place s x e) o n) same h.noted
+noted_at : {spec : Spec} {o n : Notes} (s : Scope) (w v : Want) (e : Expr) → w ≡ v → IsNoted spec (place s w e) o n → IsNoted spec (place s v e) o n
+noted_at {spec} {o} {n} s w v e same h = subst (λ (x : Want). IsNoted spec (place s x e) o n) same h
 
--- a condition that isn't there, and one that is
+at_want : {spec : Spec} {o n : Notes} {t : Telling} (s : Scope) (w v : Want) (e : Expr) → w ≡ v → IsChecked spec (place s w e) o n t → IsNoted spec (place s v e) o n
+at_want s w v e same h = noted_at s w v e same h.noted
+
 module _ (spec : Spec) (s : Scope) (w : Want) (c : Option Expr) where
   pub none_there : {o : Notes} → c ≡ None → AreNoted spec (optional s w c) o o
   none_there {o} is = subst (λ (x : Option Expr). AreNoted spec (optional s w x) o o) (sym is) (none_noted spec o)
@@ -191,43 +205,47 @@ module _ (spec : Spec) (s : Scope) (w : Want) (e : Expr) where
   first_checked : {o n : Notes} {t : Telling} (layer : ExprLayer) (a : Expr) → expr_layer e ≡ layer → IsChecked spec (place s (first_part_want w (expr_layer e)) a) o n t → IsChecked spec (place s (first_part_want w layer) a) o n t
   first_checked {o} {n} {t} layer a at g = subst (λ (y : ExprLayer). IsChecked spec (place s (first_part_want w y) a) o n t) at g
 
-  pub checked_bind : {o m n : Notes} {t u : Telling} (x : List ℕ) (a b : Expr) (si : Scope) → (out-Expr e).kind ≡ exprs.Bind x a b → IsChecked spec (place s (first_part_want w (expr_layer e)) a) o m t → si ≡ with_variable s x (flat_sort t)
-      → IsChecked spec (place si (second_part_want w t (expr_layer e)) b) m n u → HasCheckedParts spec (place s w e) o n untold
+  pub checked_bind : {o m n : Notes} {t : Telling} (x : List ℕ) (a b : Expr) (si : Scope) → (out-Expr e).kind ≡ exprs.Bind x a b → IsChecked spec (place s (first_part_want w (expr_layer e)) a) o m t → si ≡ with_variable s x (flat_sort t)
+      → IsNoted spec (place si (second_part_want w t (expr_layer e)) b) m n → HasCheckedParts spec (place s w e) o n untold
   checked_bind {t = t} x a b si is h scoped k =
       let at : expr_layer e ≡ ExprKind-F.Bind x a b = ap out-ExprKind is ∙ layer_of_bind x a b in
       checked_at (ExprKind-F.Bind x a b) untold at
       (part_noted_then spec _ (place (with_variable s x (flat_sort (told spec s a))) (same_want any_flat w) b ∷ []) (first_checked (ExprKind-F.Bind x a b) a at h).noted
-      (part_noted spec _ (inside si x (flat_sort t) (flat_sort (told spec s a)) _ (same_want any_flat w) b scoped (ap flat_sort h.tells) (ap (second_part_want w t) at) k.noted))) refl
+      (part_noted spec _ (inside si x (flat_sort t) (flat_sort (told spec s a)) _ (same_want any_flat w) b scoped (ap flat_sort h.tells) (ap (second_part_want w t) at) k))) refl
 
-  pub checked_member : {o m k n : Notes} {t u : Telling} (a from : Expr) (start middle : ℕ) → (out-Expr e).kind ≡ exprs.Member a from → start ≡ length (noted_types o)
-      → IsChecked spec (place s (first_part_want w (expr_layer e)) from) o m t → middle ≡ length (noted_types m) → IsChecked spec (place s (second_part_want w t (expr_layer e)) a) m k u → n.earliest ≡ k.earliest
-      → noted_types n ≡ put_behind start middle (noted_types k) → HasCheckedParts spec (place s w e) o n (told_as truth)
-  checked_member {t = t} a from start middle at_kind here h there k earliest types =
+  -- a part that is noted before others, by the layer and what is told of the first
+  before_at : {o n : Notes} (si s' : Scope) (v v' : Want) (a : Expr) (start : ℕ) → si ≡ s' → v ≡ v' → IsNotedBefore spec (place si v a) start o n → IsNotedBefore spec (place s' v' a) start o n
+  before_at {o} {n} si s' v v' a start scoped wanted g =
+      subst (λ (y : Want). IsNotedBefore spec (place s' y a) start o n) wanted (subst (λ (y : Scope). IsNotedBefore spec (place y v a) start o n) scoped g)
+
+  pub checked_member : {o m n : Notes} {t : Telling} (a from : Expr) (start : ℕ) → (out-Expr e).kind ≡ exprs.Member a from → start ≡ length (noted_types o) → IsChecked spec (place s (first_part_want w (expr_layer e)) from) o m t
+      → IsNotedBefore spec (place s (second_part_want w t (expr_layer e)) a) start m n → HasCheckedParts spec (place s w e) o n (told_as truth)
+  checked_member {t = t} a from start at_kind here h k =
       let at : expr_layer e ≡ ExprKind-F.Member a from = ap out-ExprKind at_kind ∙ layer_of_member a from in
       checked_at (ExprKind-F.Member a from) (told_as truth) at
-      (part_ahead spec (place s (told_in any_set) from) (place s (known_sort (set_sort (told spec s from))) a) start middle here (first_checked (ExprKind-F.Member a from) from at h) there
-      (at_want s _ _ a (ap (second_part_want w t) at ∙ ap (λ y. known_sort (set_sort y)) h.tells) k) earliest types) refl
+      (part_ahead spec (place s (told_in any_set) from) (place s (known_sort (set_sort (told spec s from))) a) start here (first_checked (ExprKind-F.Member a from) from at h)
+      (before_at s s _ _ a start refl (ap (second_part_want w t) at ∙ ap (λ y. known_sort (set_sort y)) h.tells) k)) refl
 
   -- the first two parts of a set that is chosen from another one
-  pub choose_ahead : {o m k n : Notes} {t u : Telling} (a : Expr) (x : List ℕ) (from : Expr) (c : Option Expr) (si : Scope) (start middle : ℕ) → (out-Expr e).kind ≡ exprs.Choose a x from c → start ≡ length (noted_types o)
-      → IsChecked spec (place s (first_part_want w (expr_layer e)) from) o m t → middle ≡ length (noted_types m) → si ≡ with_variable s x (set_sort t) → IsChecked spec (place si (second_part_want w t (expr_layer e)) a) m k u
-      → n.earliest ≡ k.earliest → noted_types n ≡ put_behind start middle (noted_types k)
+  choose_ahead : {o m n : Notes} {t : Telling} (a : Expr) (x : List ℕ) (from : Expr) (c : Option Expr) (si : Scope) (start : ℕ) → (out-Expr e).kind ≡ exprs.Choose a x from c → start ≡ length (noted_types o)
+      → IsChecked spec (place s (first_part_want w (expr_layer e)) from) o m t → si ≡ with_variable s x (set_sort t) → IsNotedBefore spec (place si (second_part_want w t (expr_layer e)) a) start m n
       → AreNoted spec (place (with_variable s x (set_sort (told spec s from))) (element_want w) a ∷ place s (source_want w) from ∷ []) o n
-  choose_ahead {t = t} a x from c si start middle at_kind here h there scoped k earliest types =
+  choose_ahead {t = t} a x from c si start at_kind here h scoped k =
       let at : expr_layer e ≡ ExprKind-F.Choose a x from c = ap out-ExprKind at_kind ∙ layer_of_choose a x from c in
-      part_ahead spec (place s (source_want w) from) (place (with_variable s x (set_sort (told spec s from))) (element_want w) a) start middle here (first_checked (ExprKind-F.Choose a x from c) from at h) there
-      (inside si x (set_sort t) (set_sort (told spec s from)) _ (element_want w) a scoped (ap set_sort h.tells) (ap (second_part_want w t) at) k.noted) earliest types
-
-  pub checked_choose : {o n k : Notes} (a : Expr) (x : List ℕ) (from : Expr) (c : Option Expr) → (out-Expr e).kind ≡ exprs.Choose a x from c
-      → AreNoted spec (place (with_variable s x (set_sort (told spec s from))) (element_want w) a ∷ place s (source_want w) from ∷ []) o n
-      → AreNoted spec (optional (with_variable s x (set_sort (told spec s from))) truth_want c) n k → HasCheckedParts spec (place s w e) o k untold
-  checked_choose a x from c at_kind h j =
-      checked_at (ExprKind-F.Choose a x from c) untold (ap out-ExprKind at_kind ∙ layer_of_choose a x from c)
-      (parts_noted spec (place (with_variable s x (set_sort (told spec s from))) (element_want w) a ∷ place s (source_want w) from ∷ []) (optional (with_variable s x (set_sort (told spec s from))) truth_want c) h j) refl
+      part_ahead spec (place s (source_want w) from) (place (with_variable s x (set_sort (told spec s from))) (element_want w) a) start here (first_checked (ExprKind-F.Choose a x from c) from at h)
+      (before_at si (with_variable s x (set_sort (told spec s from))) _ (element_want w) a start (scoped ∙ ap (λ y. with_variable s x (set_sort y)) h.tells) (ap (second_part_want w t) at) k)
 
   -- the condition of a set that is chosen from another one
-  pub condition_in : {n k : Notes} (t : Telling) (a : Expr) (x : List ℕ) (from : Expr) (c : Option Expr) (si : Scope) → (out-Expr e).kind ≡ exprs.Choose a x from c → t ≡ told spec s from → si ≡ with_variable s x (set_sort t)
+  condition_in : {n k : Notes} (t : Telling) (a : Expr) (x : List ℕ) (from : Expr) (c : Option Expr) (si : Scope) → (out-Expr e).kind ≡ exprs.Choose a x from c → t ≡ told spec s from → si ≡ with_variable s x (set_sort t)
       → AreNoted spec (optional si (third_part_want w t (expr_layer e)) c) n k → AreNoted spec (optional (with_variable s x (set_sort (told spec s from))) truth_want c) n k
   condition_in {n} {k} t a x from c si is tells scoped g =
       subst (λ (y : Want). AreNoted spec (optional (with_variable s x (set_sort (told spec s from))) y c) n k) (ap (third_part_want w t) (ap out-ExprKind is ∙ layer_of_choose a x from c))
       (subst (λ (y : Scope). AreNoted spec (optional y (third_part_want w t (expr_layer e)) c) n k) (scoped ∙ ap (λ y. with_variable s x (set_sort y)) tells) g)
+
+  pub checked_choose : {o m k n : Notes} {t : Telling} (a : Expr) (x : List ℕ) (from : Expr) (c : Option Expr) (si : Scope) (start : ℕ) → (out-Expr e).kind ≡ exprs.Choose a x from c → start ≡ length (noted_types o)
+      → IsChecked spec (place s (first_part_want w (expr_layer e)) from) o m t → si ≡ with_variable s x (set_sort t)
+      → IsNotedBefore spec (place si (second_part_want w t (expr_layer e)) a) start m k → AreNoted spec (optional si (third_part_want w t (expr_layer e)) c) k n → HasCheckedParts spec (place s w e) o n untold
+  checked_choose {t = t} a x from c si start at_kind here h scoped g k =
+      checked_at (ExprKind-F.Choose a x from c) untold (ap out-ExprKind at_kind ∙ layer_of_choose a x from c)
+      (parts_noted spec (place (with_variable s x (set_sort (told spec s from))) (element_want w) a ∷ place s (source_want w) from ∷ []) (optional (with_variable s x (set_sort (told spec s from))) truth_want c)
+      (choose_ahead a x from c si start at_kind here h scoped g) (condition_in t a x from c si at_kind h.tells scoped k)) refl

@@ -1,5 +1,5 @@
 -- The faults of an expression, from those of its own and those of its parts, and what is noted of parts in turn.
-use Rattle.std.proofs.Common.{◌≡◌, ℕ, ◌≤◌, List, [], ◌∷◌, ◌++◌, length, sym, ap, subst, ◌∙◌, inl, inr}
+use Rattle.std.proofs.Common.{◌≡◌, ℕ, ◌≤◌, List, [], ◌∷◌, ◌++◌, length, refl, sym, ap, subst, ◌∙◌, inl, inr}
 use Rattle.std.specs.Prelude.{◌⊎◌, Contains, if◌then◌else◌}
 use Rattle.std.proofs.Math.ListN.{set}
 use Rattle.std.proofs.lemmas.List.Elements.{Contains-append_left, Contains-append_right, Contains-append_cases, Contains-push}
@@ -21,7 +21,7 @@ use Rattle.expr_types.proofs.Clean.{told_out, well_named_parts}
 use Rattle.expr_sorts.specs.Own.{OwnFaults, WholeHas, PartsHave}
 use Rattle.expr_sorts.specs.declared.notes.Notes.{Notes}
 use Rattle.expr_sorts.specs.Checked.{IsChecked, HasCheckedParts}
-use Rattle.expr_sorts.specs.Noted.{IsNoted, AreNoted, noted_types, put_behind}
+use Rattle.expr_sorts.specs.Noted.{IsNoted, AreNoted, IsNotedBefore, noted_types, put_behind}
 use Rattle.expr_sorts.proofs.Listed.{Lists-none, Lists-then, Lists-turned, Lists-whole, longer}
 
 module _ (spec : Spec) (at : ℕ) (kind : SpecFaultKind) where
@@ -105,11 +105,19 @@ module _ (spec : Spec) where
     parts_push ps p g h = parts_noted ps (p ∷ []) g (part_noted p h)
 
   -- a part that is looked at first and then the one that stands before it
-  pub part_ahead : {o m k n : Notes} {t : Telling} (f p : Place) (start middle : ℕ) → start ≡ length (noted_types o) → IsChecked spec f o m t → middle ≡ length (noted_types m) → IsNoted spec p m k → n.earliest ≡ k.earliest
-      → noted_types n ≡ put_behind start middle (noted_types k) → AreNoted spec (p ∷ f ∷ []) o n
-  part_ahead {o} {m} {k} {n} f p start middle here g there h earliest types = record {
-    gathers = part_last p (f ∷ []) (one_part f g.noted.gathers) (subst (λ (x : Found). Gathers m.earliest x (WholeHas spec p)) (sym earliest) h.gathers);
-    lists = Lists-turned spec (p ∷ []) (f ∷ []) start middle here g.noted.lists there h.lists types;
+  pub part_ahead : {o m n : Notes} {t : Telling} (f p : Place) (start : ℕ) → start ≡ length (noted_types o) → IsChecked spec f o m t → IsNotedBefore spec p start m n → AreNoted spec (p ∷ f ∷ []) o n
+  part_ahead {o} {m} {n} f p start here g h = record {
+    gathers = part_last p (f ∷ []) (one_part f g.noted.gathers) h.gathers;
+    lists = Lists-turned spec (p ∷ []) (f ∷ []) start (length (noted_types m)) here g.noted.lists refl h.lists h.turned;
+  }
+
+  -- a part is looked at, and its types are put before others
+  pub part_before : {m k n : Notes} (p : Place) (start middle : ℕ) → middle ≡ length (noted_types m) → IsNoted spec p m k → n.earliest ≡ k.earliest → noted_types n ≡ put_behind start middle (noted_types k) → IsNotedBefore spec p start m n
+  part_before {m} {k} {n} p start middle there h earliest types = record {
+    gathers = subst (λ (x : Found). Gathers m.earliest x (WholeHas spec p)) (sym earliest) h.gathers;
+    between = noted_types k;
+    lists = h.lists;
+    turned = types ∙ ap (λ i. put_behind start i (noted_types k)) there;
   }
 
   -- what is listed before is still there

@@ -1,17 +1,13 @@
 -- What a check of expressions does.
-use Rattle.std.specs.Prelude.{◌≡◌, ℕ, List, [], ◌∷◌, Option}
+use Rattle.std.specs.Prelude.{◌≡◌, ℕ, List, Option}
 use Rattle.flow_syntax.specs.declared.expr.Expr.{Expr, out-Expr}
 use Rattle.flow_syntax.specs.declared.expr.ExprKind.TheVariants as exprs
 use Rattle.flow_syntax.specs.declared.spec.Spec.{Spec}
 use Rattle.flow_syntax.specs.Telling.{Telling, told}
-use Rattle.flow_syntax.specs.Types.{Typing}
 use Rattle.flow_syntax.specs.ExprPlaces.{Place, parts_of}
 use Rattle.flow_syntax.specs.ExprFaults.{own_telling}
-use Rattle.earliest_fault.specs.Earliest.{Gathers}
-use Rattle.expr_types.specs.Listing.{AreListed}
 use Rattle.expr_sorts.specs.declared.notes.Notes.{Notes}
-use Rattle.expr_sorts.specs.Noted.{IsNoted, AreNoted, noted_types}
-use Rattle.expr_sorts.specs.Own.{WholeHas}
+use Rattle.expr_sorts.specs.Noted.{IsNoted, AreNoted}
 
 -- The faults of an expression and its parts are noted, their types are listed, and what is answered is told of it.
 pub record IsChecked (spec : Spec) (p : Place) (old new : Notes) (answer : Telling) : Type 0 where

@@ -1,5 +1,5 @@
 -- What is noted of expressions.
-use Rattle.std.specs.Prelude.{ℕ, ◌-◌, List, [], ◌∷◌, ◌++◌, take, drop, map}
+use Rattle.std.specs.Prelude.{◌≡◌, ℕ, ◌-◌, List, [], ◌∷◌, ◌++◌, length, take, drop, map}
 use Rattle.std.specs.List.{flat_map}
 use Rattle.flow_syntax.specs.declared.message.Message.{Message}
 use Rattle.flow_syntax.specs.declared.spec.Spec.{Spec}
@@ -34,6 +34,13 @@ pub record IsNoted (spec : Spec) (p : Place) (old new : Notes) : Type 0 where
 pub record AreNoted (spec : Spec) (ps : List Place) (old new : Notes) : Type 0 where
   pub gathers : Gathers old.earliest new.earliest (PartsHave spec ps)
   pub lists : Lists spec ps (noted_types old) (noted_types new)
+
+-- The faults of an expression and its parts are noted, and their types are listed before those that stood from a place on.
+pub record IsNotedBefore (spec : Spec) (p : Place) (start : ℕ) (old new : Notes) : Type 0 where
+  pub gathers : Gathers old.earliest new.earliest (WholeHas spec p)
+  pub between : List Typing
+  pub lists : Lists spec (p ∷ []) (noted_types old) between
+  pub turned : noted_types new ≡ put_behind start (length (noted_types old)) between
 
 -- the conditions of messages at their places
 abbrev pub conditions_of : List Message → List Place

@@ -61,18 +61,23 @@ tell_one t (ExprKind-F.Minus a) = is (element int_sort)
 tell_one t (ExprKind-F.Not a) = is truth
 tell_one t layer = untold
 
--- what a form of two or three parts tells, where this is told of those that are checked first and second
+-- what a form of two or three parts tells, where this is told of those that are checked first and second: where it doesn't have the type of the
+-- first
+abbrev pub tell_made : {K E : Type 0} → Telling → Telling → ExprKind-F K E → Telling
+tell_made t u (ExprKind-F.Both a b) = pair_telling t u
+tell_made t u (ExprKind-F.Look m k) = value_of t
+tell_made t u (ExprKind-F.Arith op a b) = is (element int_sort)
+tell_made t u (ExprKind-F.Compare op a b) = is truth
+tell_made t u (ExprKind-F.Member e set) = is truth
+tell_made t u (ExprKind-F.And a b) = is truth
+tell_made t u (ExprKind-F.Or a b) = is truth
+tell_made t u layer = untold
+
+-- and of any
 abbrev pub tell_two : {K E : Type 0} → Telling → Telling → ExprKind-F K E → Telling
-tell_two t u (ExprKind-F.Both a b) = pair_telling t u
-tell_two t u (ExprKind-F.Look m k) = value_of t
 tell_two t u (ExprKind-F.Update m k v) = always_told (only any_map t)
 tell_two t u (ExprKind-F.Set2 op a b) = only (operands op) t
-tell_two t u (ExprKind-F.Arith op a b) = is (element int_sort)
-tell_two t u (ExprKind-F.Compare op a b) = is truth
-tell_two t u (ExprKind-F.Member e set) = is truth
-tell_two t u (ExprKind-F.And a b) = is truth
-tell_two t u (ExprKind-F.Or a b) = is truth
-tell_two t u layer = untold
+tell_two t u layer = tell_made t u layer
 
 -- what a form without parts tells
 abbrev pub leaf_telling : {K E : Type 0} → Spec → Scope → ExprKind-F K E → Telling

@@ -7,7 +7,7 @@ ghost use Rattle.flow_syntax.specs.Types.{element, int_sort, truth};
 ghost use Rattle.spec_names.specs.Tables.{AreNames};
 ghost use Rattle.expr_sorts.specs.Scoping.{scope_of};
 ghost use Rattle.expr_sorts.specs.Views.{shape_of, sort_in, telling_of, want_of};
-ghost use Rattle.expr_sorts.specs.Plans.{first_part_want, leaf_telling, second_part_want, third_part_want, tell_one, tell_two};
+ghost use Rattle.expr_sorts.specs.Plans.{first_part_want, leaf_telling, second_part_want, third_part_want, tell_made, tell_one, tell_two};
 
 use crate::names::{Context, name_telling, property_telling};
 use crate::scope::Scope;
@@ -178,6 +178,25 @@ pub fn tell_one(alloc: Global, kind: &ExprKind, told: &Telling) -> Result<Tellin
     }
 }
 
+/// What a form of two or three parts tells that doesn't have the type of the part checked first.
+fn tell_made(
+    alloc: Global,
+    kind: &ExprKind,
+    first: &Telling,
+    second: &Telling,
+) -> Result<Telling, AllocError>
+    ensures { IfOk result (λ t. telling_of t ≡ tell_made (telling_of first.now) (telling_of second.now) (out-ExprKind kind.now)) }
+{
+    match kind {
+        ExprKind::Both(_, _) => pair_telling(alloc, first, second),
+        ExprKind::Look(_, _) => value_of(alloc, first),
+        ExprKind::Arith(_, _, _) => Ok(told_int()),
+        ExprKind::Compare(_, _, _) | ExprKind::Member(_, _) => Ok(told_truth()),
+        ExprKind::And(_, _) | ExprKind::Or(_, _) => Ok(told_truth()),
+        _ => Ok(Telling::Untold),
+    }
+}
+
 /// What a form of two or three parts tells, where this is told of those that are checked first and second.
 pub fn tell_two(
     alloc: Global,
@@ -188,13 +207,8 @@ pub fn tell_two(
     ensures { IfOk result (λ t. telling_of t ≡ tell_two (telling_of first) (telling_of second.now) (out-ExprKind kind.now)) }
 {
     match kind {
-        ExprKind::Both(_, _) => pair_telling(alloc, &first, second),
-        ExprKind::Look(_, _) => value_of(alloc, &first),
         ExprKind::Update(_, _, _) => Ok(always_told(only(Shape::AnyMap, first))),
         ExprKind::Set2(op, _, _) => Ok(only(operands(*op), first)),
-        ExprKind::Arith(_, _, _) => Ok(told_int()),
-        ExprKind::Compare(_, _, _) | ExprKind::Member(_, _) => Ok(told_truth()),
-        ExprKind::And(_, _) | ExprKind::Or(_, _) => Ok(told_truth()),
-        _ => Ok(Telling::Untold),
+        _ => tell_made(alloc, kind, &first, second),
     }
 }

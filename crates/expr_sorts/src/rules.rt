@@ -18,7 +18,7 @@ ghost use Rattle.expr_sorts.specs.Views.{want_of};
 use crate::names::{Context, property_named};
 use crate::notes::Notes;
 use crate::scope::{PatternVariable, Scope, Whole};
-use crate::walk::check;
+use crate::walk::note;
 use crate::want::{Want, free, known_lattice, truth};
 use earliest_fault::Earliest;
 use flow_syntax::{
@@ -133,8 +133,7 @@ fn check_in(
     requires { AreNames cx.now.spec.now cx.now.names.now }
     ensures { OnOk result (IsNoted cx.now.spec.now (place (whole_scope whole.now) (want_of want.now) expr.now) notes.old notes.new) }
 {
-    check(expr, cx, &Scope::Outer(&*whole), want, notes)?;
-    Ok(())
+    note(expr, cx, &Scope::Outer(&*whole), want, notes)
 }
 
 /// Notes the faults and types of the body of a rule.
@@ -144,8 +143,7 @@ fn check_rule(cx: &Context<'_>, rule: &PropRule, notes: &mut Notes) -> Result<()
 {
     let whole = rule_scope(cx.alloc, &rule.trigger)?;
     let want = body_want(cx, &rule.property.text)?;
-    check_in(&rule.body, cx, &whole, &want, notes)?;
-    Ok(())
+    check_in(&rule.body, cx, &whole, &want, notes)
 }
 
 /// Notes the faults and types of the condition of a message.
@@ -158,8 +156,7 @@ fn check_message(cx: &Context<'_>, message: &Message, notes: &mut Notes) -> Resu
         return Ok(());
     };
     let whole = message_scope(cx.alloc, message)?;
-    check_in(condition, cx, &whole, &truth(), notes)?;
-    Ok(())
+    check_in(condition, cx, &whole, &truth(), notes)
 }
 
 fn check_rules(cx: &Context<'_>, rules: &[PropRule], notes: &mut Notes) -> Result<(), AllocError>

@@ -87,7 +87,16 @@ pub fn copy_named(named: &Named) -> Result<Named, AllocError>
     })
 }
 
+/// A sort behind a box, once more.
+#[cycle(copy_sort)]
+fn copy_boxed_sort(alloc: Global, sort: &Boxed<ElemSort>) -> Result<Boxed<ElemSort>, AllocError>
+    ensures { IfOk result (λ copy. sort_of copy ≡ sort_of sort.now) }
+{
+    Boxed::new(alloc, copy_sort(alloc, sort.get())?)
+}
+
 /// The same sort once more.
+#[cycle(copy_sort)]
 pub fn copy_sort(alloc: Global, sort: &ElemSort) -> Result<ElemSort, AllocError>
     ensures { IfOk result (λ copy. sort_of copy ≡ sort_of sort.now) }
 {
@@ -98,14 +107,26 @@ pub fn copy_sort(alloc: Global, sort: &ElemSort) -> Result<ElemSort, AllocError>
         ElemSort::Int => ElemSort::Int,
         ElemSort::Enum(name) => ElemSort::Enum(copy_named(name)?),
         ElemSort::Pair(a, b) => {
-            let first = copy_sort(alloc, a.get())?;
-            let second = copy_sort(alloc, b.get())?;
-            ElemSort::Pair(Boxed::new(alloc, first)?, Boxed::new(alloc, second)?)
+            let first = copy_boxed_sort(alloc, a)?;
+            let second = copy_boxed_sort(alloc, b)?;
+            ElemSort::Pair(first, second)
         }
     })
 }
 
+/// A lattice behind a box, once more.
+#[cycle(copy_lattice)]
+fn copy_boxed_lattice(
+    alloc: Global,
+    lattice: &Boxed<LatticeType>,
+) -> Result<Boxed<LatticeType>, AllocError>
+    ensures { IfOk result (λ copy. lattice_of copy ≡ lattice_of lattice.now) }
+{
+    Boxed::new(alloc, copy_lattice(alloc, lattice.get())?)
+}
+
 /// The same lattice once more.
+#[cycle(copy_lattice)]
 pub fn copy_lattice(alloc: Global, lattice: &LatticeType) -> Result<LatticeType, AllocError>
     ensures { IfOk result (λ copy. lattice_of copy ≡ lattice_of lattice.now) }
 {
@@ -114,14 +135,13 @@ pub fn copy_lattice(alloc: Global, lattice: &LatticeType) -> Result<LatticeType,
         LatticeType::Must(sort) => LatticeType::Must(copy_sort(alloc, sort)?),
         LatticeType::Flat(sort) => LatticeType::Flat(copy_sort(alloc, sort)?),
         LatticeType::Map(key, value) => {
-            let key = copy_sort(alloc, key)?;
-            let value = copy_lattice(alloc, value.get())?;
-            LatticeType::Map(key, Boxed::new(alloc, value)?)
+            let value = copy_boxed_lattice(alloc, value)?;
+            LatticeType::Map(copy_sort(alloc, key)?, value)
         }
         LatticeType::Pair(a, b) => {
-            let first = copy_lattice(alloc, a.get())?;
-            let second = copy_lattice(alloc, b.get())?;
-            LatticeType::Pair(Boxed::new(alloc, first)?, Boxed::new(alloc, second)?)
+            let first = copy_boxed_lattice(alloc, a)?;
+            let second = copy_boxed_lattice(alloc, b)?;
+            LatticeType::Pair(first, second)
         }
         LatticeType::Table(name) => LatticeType::Table(copy_named(name)?),
     })

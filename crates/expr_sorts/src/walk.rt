@@ -1,13 +1,14 @@
 //! The walk over an expression: notes each fault in it, lists the type of each part, and answers what is told of its own.
-ghost use Rattle.std.specs.Prelude.{◌≡◌, IfOk, OnOk, map};
+ghost use Rattle.std.specs.Prelude.{◌≡◌, ◌≤◌, IfOk, OnOk, length, map};
 ghost use Rattle.std.specs.Option.{option_copied};
 ghost use Rattle.flow_syntax.specs.declared.expr.ExprKind.{out-ExprKind};
 ghost use Rattle.flow_syntax.specs.Scopes.{with_variable};
-ghost use Rattle.flow_syntax.specs.Telling.{function_named};
+ghost use Rattle.flow_syntax.specs.Telling.{function_named, is, untold};
+ghost use Rattle.flow_syntax.specs.Types.{truth};
 ghost use Rattle.flow_syntax.specs.ExprPlaces.{arguments, declared_arguments, optional, place};
 ghost use Rattle.spec_names.specs.Tables.{AreNames};
 ghost use Rattle.expr_sorts.specs.Checked.{HasCheckedParts, IsBind, IsChecked, IsChoose, IsMember};
-ghost use Rattle.expr_sorts.specs.Noted.{AreNoted, IsNoted};
+ghost use Rattle.expr_sorts.specs.Noted.{AreNoted, IsNoted, IsNotedBefore, noted_types};
 ghost use Rattle.expr_sorts.specs.Plans.{argument_want, first_part_want, outside, second_part_want, third_part_want};
 ghost use Rattle.expr_sorts.specs.Scoping.{scope_of};
 ghost use Rattle.expr_sorts.specs.Views.{sort_in, telling_of, want_of};
@@ -71,7 +72,7 @@ fn inner_scope<'a>(scope: &'a Scope<'a>, name: &'a Text, sort: Option<&'a ElemSo
 
 /// Notes the faults of an expression and of its parts, lists their types, and answers what is told of its type.
 #[cycle(check)]
-pub fn check(
+fn check(
     expr: &Expr,
     cx: &Context<'_>,
     scope: &Scope<'_>,
@@ -88,6 +89,22 @@ pub fn check(
     let typing = listed_type(cx.alloc, want, &told)?;
     set_type(&mut notes.types, at, typing);
     Ok(told)
+}
+
+/// Notes the faults of an expression and of its parts, and lists their types.
+#[cycle(check)]
+pub fn note(
+    expr: &Expr,
+    cx: &Context<'_>,
+    scope: &Scope<'_>,
+    want: &Want,
+    notes: &mut Notes,
+) -> Result<(), AllocError>
+    requires { AreNames cx.now.spec.now cx.now.names.now }
+    ensures { OnOk result (IsNoted cx.now.spec.now (place (scope_of scope.now) (want_of want.now) expr.now) notes.old notes.new) }
+{
+    check(expr, cx, scope, want, notes)?;
+    Ok(())
 }
 
 /// Notes the faults of the parts of an expression, lists their types, and answers what its form tells of its type.
@@ -112,19 +129,19 @@ fn check_parts(
         }
         ExprKind::Call(name, given) => {
             let declared = declared_arguments(cx, name);
-            check_arguments(given.as_slice(), cx, scope, declared, notes)?;
+            note_arguments(given.as_slice(), cx, scope, declared, notes)?;
             result_telling(cx, name)
         }
         ExprKind::SetOf(elements) => {
             let wanted = element_want(cx.alloc, want)?;
-            check_each(elements.as_slice(), cx, scope, &wanted, notes)?;
+            note_each(elements.as_slice(), cx, scope, &wanted, notes)?;
             Ok(Telling::Untold)
         }
         ExprKind::MapOf(keys, values) => {
             let wanted = key_want(cx.alloc, want)?;
-            check_each(keys.as_slice(), cx, scope, &wanted, notes)?;
+            note_each(keys.as_slice(), cx, scope, &wanted, notes)?;
             let wanted = value_want(cx.alloc, want)?;
-            check_each(values.as_slice(), cx, scope, &wanted, notes)?;
+            note_each(values.as_slice(), cx, scope, &wanted, notes)?;
             Ok(Telling::Untold)
         }
         ExprKind::MakeFlat(a)
@@ -149,12 +166,21 @@ fn check_parts(
         ExprKind::Update(a, b, c) | ExprKind::If(a, b, c) => {
             let first = check_first(a.get(), cx, scope, kind, want, notes)?;
             let second = check_second(b.get(), cx, scope, kind, want, &first, notes)?;
-            check_third(c.get(), cx, scope, kind, want, &first, notes)?;
+            note_third(c.get(), cx, scope, kind, want, &first, notes)?;
             tell_two(cx.alloc, kind, first, &second)
         }
-        ExprKind::Member(_, _) => check_member(expr, cx, scope, want, notes),
-        ExprKind::Choose(_, _, _, _) => check_choose(expr, cx, scope, want, notes),
-        ExprKind::Bind(_, _, _) => check_bind(expr, cx, scope, want, notes),
+        ExprKind::Member(_, _) => {
+            note_member(expr, cx, scope, want, notes)?;
+            Ok(Telling::Is(ExprType::Truth))
+        }
+        ExprKind::Choose(_, _, _, _) => {
+            note_choose(expr, cx, scope, want, notes)?;
+            Ok(Telling::Untold)
+        }
+        ExprKind::Bind(_, _, _) => {
+            note_bind(expr, cx, scope, want, notes)?;
+            Ok(Telling::Untold)
+        }
     }
 }
 
@@ -193,9 +219,27 @@ fn check_second(
     check(part, cx, scope, &wanted, notes)
 }
 
+/// Checks the part that is checked second, of which nothing is asked, where this is told of the first.
+#[cycle(check)]
+fn note_second(
+    part: &Expr,
+    cx: &Context<'_>,
+    scope: &Scope<'_>,
+    kind: &ExprKind,
+    want: &Want,
+    told: &Telling,
+    notes: &mut Notes,
+) -> Result<(), AllocError>
+    requires { AreNames cx.now.spec.now cx.now.names.now }
+    ensures { OnOk result (IsNoted cx.now.spec.now (place (scope_of scope.now) (second_part_want (want_of want.now) (telling_of told.now) (out-ExprKind kind.now)) part.now) notes.old notes.new) }
+{
+    let wanted = second_part_want(cx.alloc, kind, want, told)?;
+    note(part, cx, scope, &wanted, notes)
+}
+
 /// Checks the part that is checked third, where this is told of the first.
 #[cycle(check)]
-fn check_third(
+fn note_third(
     part: &Expr,
     cx: &Context<'_>,
     scope: &Scope<'_>,
@@ -208,22 +252,22 @@ fn check_third(
     ensures { OnOk result (IsNoted cx.now.spec.now (place (scope_of scope.now) (third_part_want (want_of want.now) (telling_of told.now) (out-ExprKind kind.now)) part.now) notes.old notes.new) }
 {
     let wanted = third_part_want(cx.alloc, kind, want, told)?;
-    check(part, cx, scope, &wanted, notes)?;
-    Ok(())
+    note(part, cx, scope, &wanted, notes)
 }
 
-/// Checks the parts of the question whether an element is in a set. What is wanted of the element is told of the set.
+/// Notes the faults of the parts of the question whether an element is in a set, and lists their types. What is wanted of the element is told
+/// of the set.
 #[cycle(check)]
-fn check_member(
+fn note_member(
     expr: &Expr,
     cx: &Context<'_>,
     scope: &Scope<'_>,
     want: &Want,
     notes: &mut Notes,
-) -> Result<Telling, AllocError>
+) -> Result<(), AllocError>
     requires names { AreNames cx.now.spec.now cx.now.names.now }
     requires form { IsMember expr.now }
-    ensures { IfOk result (λ t. HasCheckedParts cx.now.spec.now (place (scope_of scope.now) (want_of want.now) expr.now) notes.old notes.new (telling_of t)) }
+    ensures { OnOk result (HasCheckedParts cx.now.spec.now (place (scope_of scope.now) (want_of want.now) expr.now) notes.old notes.new (is truth)) }
 {
     let kind = &expr.kind;
     let ExprKind::Member(element, set) = kind else {
@@ -231,24 +275,22 @@ fn check_member(
     };
     let start = count(&notes.types);
     let told = check_first(set.get(), cx, scope, kind, want, notes)?;
-    let middle = count(&notes.types);
-    check_second(element.get(), cx, scope, kind, want, &told, notes)?;
-    put_behind(&mut notes.types, start, middle);
-    Ok(Telling::Is(ExprType::Truth))
+    note_before(element.get(), cx, scope, kind, want, &told, start, notes)
 }
 
-/// Checks the parts of a set that is chosen from another one. What is wanted of the element is told of the other set.
+/// Notes the faults of the parts of a set that is chosen from another one, and lists their types. What is wanted of the element is told of the
+/// other set.
 #[cycle(check)]
-fn check_choose(
+fn note_choose(
     expr: &Expr,
     cx: &Context<'_>,
     scope: &Scope<'_>,
     want: &Want,
     notes: &mut Notes,
-) -> Result<Telling, AllocError>
+) -> Result<(), AllocError>
     requires names { AreNames cx.now.spec.now cx.now.names.now }
     requires form { IsChoose expr.now }
-    ensures { IfOk result (λ t. HasCheckedParts cx.now.spec.now (place (scope_of scope.now) (want_of want.now) expr.now) notes.old notes.new (telling_of t)) }
+    ensures { OnOk result (HasCheckedParts cx.now.spec.now (place (scope_of scope.now) (want_of want.now) expr.now) notes.old notes.new untold) }
 {
     let kind = &expr.kind;
     let ExprKind::Choose(element, name, set, condition) = kind else {
@@ -256,17 +298,36 @@ fn check_choose(
     };
     let start = count(&notes.types);
     let told = check_first(set.get(), cx, scope, kind, want, notes)?;
-    let middle = count(&notes.types);
     let inner = inner_scope(&*scope, name, set_sort(&told));
-    check_second(element.get(), cx, &inner, kind, want, &told, notes)?;
+    note_before(element.get(), cx, &inner, kind, want, &told, start, notes)?;
+    note_condition(condition, cx, &inner, kind, want, &told, notes)
+}
+
+/// Checks the part that is checked second but stands before the one that is checked first, whose types stand from `start` on.
+#[cycle(check)]
+fn note_before(
+    part: &Expr,
+    cx: &Context<'_>,
+    scope: &Scope<'_>,
+    kind: &ExprKind,
+    want: &Want,
+    told: &Telling,
+    start: usize,
+    notes: &mut Notes,
+) -> Result<(), AllocError>
+    requires names { AreNames cx.now.spec.now cx.now.names.now }
+    requires within { start ≤ length (noted_types notes.old) }
+    ensures { OnOk result (IsNotedBefore cx.now.spec.now (place (scope_of scope.now) (second_part_want (want_of want.now) (telling_of told.now) (out-ExprKind kind.now)) part.now) start notes.old notes.new) }
+{
+    let middle = count(&notes.types);
+    note_second(part, cx, scope, kind, want, told, notes)?;
     put_behind(&mut notes.types, start, middle);
-    check_condition(condition, cx, &inner, kind, want, &told, notes)?;
-    Ok(Telling::Untold)
+    Ok(())
 }
 
 /// Checks the condition on the elements of a set, if there is one, where this is told of the set.
 #[cycle(check)]
-fn check_condition(
+fn note_condition(
     condition: &Option<Boxed<Expr>>,
     cx: &Context<'_>,
     scope: &Scope<'_>,
@@ -279,23 +340,23 @@ fn check_condition(
     ensures { OnOk result (AreNoted cx.now.spec.now (optional (scope_of scope.now) (third_part_want (want_of want.now) (telling_of told.now) (out-ExprKind kind.now)) condition.now) notes.old notes.new) }
 {
     match condition {
-        Some(condition) => check_third(condition.get(), cx, scope, kind, want, told, notes),
+        Some(condition) => note_third(condition.get(), cx, scope, kind, want, told, notes),
         None => Ok(()),
     }
 }
 
-/// Checks the parts of an expression that names the element of a flat value.
+/// Notes the faults of the parts of an expression that names the element of a flat value, and lists their types.
 #[cycle(check)]
-fn check_bind(
+fn note_bind(
     expr: &Expr,
     cx: &Context<'_>,
     scope: &Scope<'_>,
     want: &Want,
     notes: &mut Notes,
-) -> Result<Telling, AllocError>
+) -> Result<(), AllocError>
     requires names { AreNames cx.now.spec.now cx.now.names.now }
     requires form { IsBind expr.now }
-    ensures { IfOk result (λ t. HasCheckedParts cx.now.spec.now (place (scope_of scope.now) (want_of want.now) expr.now) notes.old notes.new (telling_of t)) }
+    ensures { OnOk result (HasCheckedParts cx.now.spec.now (place (scope_of scope.now) (want_of want.now) expr.now) notes.old notes.new untold) }
 {
     let kind = &expr.kind;
     let ExprKind::Bind(name, flat, body) = kind else {
@@ -303,13 +364,12 @@ fn check_bind(
     };
     let told = check_first(flat.get(), cx, scope, kind, want, notes)?;
     let inner = inner_scope(&*scope, name, flat_sort(&told));
-    check_second(body.get(), cx, &inner, kind, want, &told, notes)?;
-    Ok(Telling::Untold)
+    note_second(body.get(), cx, &inner, kind, want, &told, notes)
 }
 
 /// Notes the faults and types of expressions of which the same is wanted.
 #[cycle(check)]
-fn check_each(
+fn note_each(
     exprs: &[Expr],
     cx: &Context<'_>,
     scope: &Scope<'_>,
@@ -320,14 +380,30 @@ fn check_each(
     ensures { OnOk result (AreNoted cx.now.spec.now (map (place (scope_of scope.now) (want_of want.now)) exprs.now) notes.old notes.new) }
 {
     for expr in exprs {
-        check(expr, cx, scope, want, notes)?;
+        note(expr, cx, scope, want, notes)?;
     }
     Ok(())
 }
 
+/// Notes the faults and types of an argument of a call, of which this lattice is declared.
+#[cycle(check)]
+fn note_argument(
+    argument: &Expr,
+    cx: &Context<'_>,
+    scope: &Scope<'_>,
+    declared: Option<&Named>,
+    notes: &mut Notes,
+) -> Result<(), AllocError>
+    requires { AreNames cx.now.spec.now cx.now.names.now }
+    ensures { OnOk result (IsNoted cx.now.spec.now (place (scope_of scope.now) (argument_want (option_copied declared.entry)) argument.now) notes.old notes.new) }
+{
+    let wanted = argument_want(declared)?;
+    note(argument, cx, scope, &wanted, notes)
+}
+
 /// Notes the faults and types of the arguments of a call, of which these lattices are declared.
 #[cycle(check)]
-fn check_arguments(
+fn note_arguments(
     given: &[Expr],
     cx: &Context<'_>,
     scope: &Scope<'_>,
@@ -338,8 +414,7 @@ fn check_arguments(
     ensures { OnOk result (AreNoted cx.now.spec.now (arguments (scope_of scope.now) declared.now given.now) notes.old notes.new) }
 {
     for (at, argument) in given.iter().enumerate() {
-        let wanted = argument_want(declared.get(at))?;
-        check(argument, cx, scope, &wanted, notes)?;
+        note_argument(argument, cx, scope, declared.get(at), notes)?;
     }
     Ok(())
 }

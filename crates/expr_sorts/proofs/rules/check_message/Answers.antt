@@ -1,3 +1,4 @@
+use Rattle.std.proofs.lemmas.Result.{on_ok_weaker}
 use Rattle.expr_sorts.proofs.Places.{condition_gathered, condition_listed, no_condition, no_condition_listed, placed}
 use Rattle.expr_sorts.proofs.Forms.{none_left}
 use Rattle.expr_sorts.proofs.rules.check_message.Goals as goal
@@ -10,8 +11,8 @@ returns-in_default-clause-lists c = no_condition_listed c.args.cx.now.spec.now c
 
 pub returns-clause-gathers : goal.returns-clause-gathers
 returns-clause-gathers c =
-    condition_gathered c.args.cx.now.spec.now c.args.message.now _ c.in-Some.is (placed _ _ _ _ _ c.in_ok-whole.ensures c.truth.ensures c.in_ok-check_in.ensures).gathers
+    on_ok_weaker c.check_in.result (λ h. condition_gathered c.args.cx.now.spec.now c.args.message.now _ c.in-Some.is (placed _ _ _ _ _ c.in_ok-whole.ensures c.truth.ensures h).gathers) c.check_in.ensures
 
 pub returns-clause-lists : goal.returns-clause-lists
 returns-clause-lists c =
-    condition_listed c.args.cx.now.spec.now c.args.message.now _ c.in-Some.is (placed _ _ _ _ _ c.in_ok-whole.ensures c.truth.ensures c.in_ok-check_in.ensures).lists
+    on_ok_weaker c.check_in.result (λ h. condition_listed c.args.cx.now.spec.now c.args.message.now _ c.in-Some.is (placed _ _ _ _ _ c.in_ok-whole.ensures c.truth.ensures h).lists) c.check_in.ensures

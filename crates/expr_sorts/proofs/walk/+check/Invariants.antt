@@ -5,8 +5,8 @@ use Rattle.expr_sorts.specs.Scoping.{scope_of}
 use Rattle.expr_sorts.specs.Views.{want_of}
 use Rattle.expr_sorts.proofs.walk.+check.Given as goal
 
-abbrev pub invariant-check_each-loop-expr : goal.invariant-check_each-loop-expr
-invariant-check_each-loop-expr l = AreNoted l.cx.spec.now (map (place (scope_of l.scope) (want_of l.want)) (take l.expr-index l.exprs)) l.fn.notes l.notes
+abbrev pub invariant-note_each-loop-expr : goal.invariant-note_each-loop-expr
+invariant-note_each-loop-expr l = AreNoted l.cx.spec.now (map (place (scope_of l.scope) (want_of l.want)) (take l.expr-index l.exprs)) l.fn.notes l.notes
 
-abbrev pub invariant-check_arguments-loop-at : goal.invariant-check_arguments-loop-at
-invariant-check_arguments-loop-at l = AreNoted l.cx.spec.now (arguments (scope_of l.scope) l.declared (take l.at l.given)) l.fn.notes l.notes
+abbrev pub invariant-note_arguments-loop-at : goal.invariant-note_arguments-loop-at
+invariant-note_arguments-loop-at l = AreNoted l.cx.spec.now (arguments (scope_of l.scope) l.declared (take l.at l.given)) l.fn.notes l.notes
