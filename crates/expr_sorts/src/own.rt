@@ -22,11 +22,13 @@ use crate::want::Want;
 use earliest_fault::Earliest;
 use flow_syntax::{Expr, ExprKind, ExprType, SpecFaultKind};
 
-fn is_other(wanted: &ExprType, told: &Telling) -> bool
-    ensures { IsTrue result ↔ IsOther (typing_of wanted.now) (telling_of told.now) }
+/// Whether what is told of an expression of a form with types of this group is another type than the wanted one.
+fn is_other(form: Shape, wanted: &ExprType, told: &Telling) -> bool
+    ensures { IsTrue result ↔ IsOther (shape_of form) (typing_of wanted.now) (telling_of told.now) }
 {
-    match told {
-        Telling::Is(typing) => !is_same_type(typing, wanted),
+    match (form, told) {
+        (Shape::AnyPair, _) => false,
+        (_, Telling::Is(typing)) => !is_same_type(typing, wanted),
         _ => false,
     }
 }
@@ -45,7 +47,7 @@ fn is_misfit(want: &Want, form: Shape, told: &Telling) -> bool
     ensures { IsTrue result ↔ IsMisfit (want_of want.now) (shape_of form) (telling_of told.now) }
 {
     match want {
-        Want::Known(typing) => is_other(typing, told) || !is_in(form, typing),
+        Want::Known(typing) => is_other(form, typing, told) || !is_in(form, typing),
         Want::ToldIn(shape) => is_outside(*shape, told) || matches!(told, Telling::Untold),
         Want::OwnChoice(shape) => is_outside(*shape, told),
         Want::IfToldIn(shape) => is_outside(*shape, told),

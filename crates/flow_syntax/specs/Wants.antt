@@ -1,6 +1,6 @@
 -- What is wanted of the type of an expression, and when the expression doesn't have it.
 use Rattle.std.specs.Prelude.{◌≡◌, ◌≢◌, ◌⊎◌, false, Option, Some, None, if◌then◌else◌}
-use Rattle.flow_syntax.specs.Types.{Sort, pair_sort, may, must, flat, map_to, pair_of, Typing, lattice, element, Shape, anything, any_set, any_may, any_must, any_map, any_lattice, has_shape}
+use Rattle.flow_syntax.specs.Types.{Sort, pair_sort, may, must, flat, map_to, pair_of, Typing, lattice, element, Shape, anything, any_set, any_may, any_must, any_map, any_pair, any_lattice, has_shape}
 use Rattle.flow_syntax.specs.Telling.{Telling, is, untold, hidden, key_sort, value_of}
 
 -- What is wanted of the type of an expression:
@@ -22,11 +22,13 @@ abbrev pub known_sort : Option Sort → Want
 known_sort (Some s) = known (element s)
 known_sort None = free
 
--- A type that is told is another than the wanted one.
-abbrev pub IsOther : Typing → Telling → Type 0
-IsOther wanted (is t) = t ≢ wanted
-IsOther wanted untold = ⊥
-IsOther wanted hidden = ⊥
+-- Another type than the wanted one is told of an expression of a form with types of this group. A pair is what its parts are: where a pair is told
+-- that is another, so is a part of it, and that is the part's.
+abbrev pub IsOther : Shape → Typing → Telling → Type 0
+IsOther any_pair wanted telling = ⊥
+IsOther form wanted (is t) = t ≢ wanted
+IsOther form wanted untold = ⊥
+IsOther form wanted hidden = ⊥
 
 -- A type that is told is outside the group.
 abbrev pub IsOutside : Shape → Telling → Type 0
@@ -36,7 +38,7 @@ IsOutside shape hidden = ⊥
 
 -- An expression of a form with types of this group, of which this is told, hasn't the type that is wanted.
 abbrev pub IsMisfit : Want → Shape → Telling → Type 0
-IsMisfit (known t) form telling = IsOther t telling ⊎ (has_shape form t ≡ false)
+IsMisfit (known t) form telling = IsOther form t telling ⊎ (has_shape form t ≡ false)
 IsMisfit (told_in shape) form telling = IsOutside shape telling ⊎ (telling ≡ untold)
 IsMisfit (own_choice shape) form telling = IsOutside shape telling
 IsMisfit (if_told_in shape) form telling = IsOutside shape telling
