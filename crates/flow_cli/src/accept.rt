@@ -18,12 +18,10 @@ use crate::output::Stop;
 use aterm_text::TermRefusal;
 use flow_io::{Folder, ReadRefusal, read_whole};
 use flow_parse::{ParseRefusal, parse};
-use flow_sorts::{SpecRefusal, check_sorts};
+use flow_sorts::{NotYet, SpecRefusal, TreeRefusal, check_sorts, check_tree, only_simple};
 use flow_syntax::{LexRefusal, Spec, Token, TypedSpec, lex};
 use flow_term::{List, Path, Term, write_path};
-use simple_rules::{NotYet, only_simple};
 use std::alloc::{AllocError, Global};
-use tree_sorts::{TreeRefusal, check_tree};
 
 /// Reads the specification of this name, to its end.
 pub fn read_specification<F: Folder>(

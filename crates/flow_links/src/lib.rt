@@ -19,4 +19,5 @@ mod rules;
 
 pub use collect::links;
 pub use edges::plain_edges;
+pub use flow_term::{Link, Point};
 pub use nodes::plain_nodes;

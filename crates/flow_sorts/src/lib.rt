@@ -1,4 +1,4 @@
-//! Whether a specification that the grammar has is one without faults, and whether a tree fits it.
+//! Whether a specification that the grammar has is one without faults, whether the analysis takes it, and whether a tree fits it.
 #![tactic(auto)]
 
 mod check;
@@ -6,3 +6,5 @@ mod refusal;
 
 pub use check::check_sorts;
 pub use refusal::SpecRefusal;
+pub use simple_rules::{NotYet, only_simple};
+pub use tree_sorts::{Constructors, TreeRefusal, check_subtree, check_tree};
