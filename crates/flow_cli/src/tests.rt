@@ -1,6 +1,13 @@
+ghost use Rattle.std.specs.Prelude.{◌<◌, ◌^◌};
+ghost use Rattle.flow_term.specs.Trees.{term_size};
+
+use crate::accept::read_specification;
+use crate::files::Read;
 use crate::{Status, run};
 use flow_io::{MemoryFolder, MemorySink};
-use flow_term::{List, Text};
+use flow_sorts::{TreeRefusal, check_subtree, check_tree};
+use flow_syntax::TypedSpec;
+use flow_term::{List, Path, Term, Text, read_path, write_path};
 use std::alloc::{AllocError, Global};
 use std::test::Fail;
 
@@ -28,9 +35,56 @@ messages
 ";
 
 /// A rule of a property whose body chooses from a set, which isn't taken yet.
-const DEFINITIONS: &[u8] = b"module defs control root Prog(s) = start -> s -> end
+const DEFINITIONS: &[u8] = b"module defs
+control
+  root Prog(s) = start -> s -> end
+  Loop(b) = entry -> b -> b -> exit
+  node Set(_, _)
+  node Skip()
 properties reach: MaySet((name, pos))
-rules reach(prev -> x @ Set(name n, _)) = {d for d in reach(prev) if fst(d) != n} join {(n, x)}";
+rules
+  reach(prev -> x @ Set(name n, _)) = {d for d in reach(prev) if fst(d) != n} join {(n, x)}
+  reach(_.start) = {}
+";
+
+/// A rule of a property whose body updates a map, which isn't taken yet.
+const CONSTANTS: &[u8] = b"module const
+control
+  root Prog(s) = start -> s -> end
+  If(s, t) = entry -> s -> exit, entry -> t -> exit
+  node Set(_, _)
+  node Sum(_, _, _)
+properties val: Map(name, Flat(int))
+rules
+  val(prev -> Set(name n, int i)) = val(prev)[n := flat(i)]
+  val(prev -> Sum(name n, name a, name b)) =
+    val(prev)[n := bind x = val(prev)[a] yield bind y = val(prev)[b] yield flat(x + y)]
+  val(_.start) = []
+";
+
+/// Branches, and a statement behind which nothing is reached.
+const INITIALISED: &[u8] = b"module init
+control
+  root Prog(s) = start -> s -> end
+  If(s, t) = entry -> s -> exit, entry -> t -> exit
+  node Set(_, _)
+  node Use(_)
+  Stop() = entry -> this
+properties init: MustSet(name)
+rules
+  init(prev -> Set(name n, _)) = init(prev) union {n}
+  init(_.start) = {}
+";
+
+/// A head that looks into its argument, which isn't taken yet.
+const FIRST_MATCH: &[u8] = b"module w
+control
+  root Prog(s) = start -> s -> end
+  While(Not(True()), _) = entry -> exit
+  While(c, b) = entry -> c -> b -> c -> exit
+  Not(e) = entry -> e -> this -> exit
+  node Int(_)
+";
 
 /// A specification with a signature.
 const TYPED: &[u8] =
@@ -97,8 +151,18 @@ fn writes_the_graph_of_a_tree(rt: HostRuntime) -> Result<(), Fail> {
 }
 
 #[test]
+fn a_statement_that_stops_has_no_way_on(rt: HostRuntime) -> Result<(), Fail> {
+    let tree = "Prog([If([Stop(),Set(\"b\",1)],[Set(\"a\",1)]),Use(\"a\")])";
+    let written = "nodes 6\n/:start\n/:end\n/0/0/0/0:node\n/0/0/0/1:node\n/0/0/1/0:node\n/0/1:node\nedges 5\n/:start -> /0/0/0/0:node\n/:start -> /0/0/1/0:node\n/0/0/0/1:node -> /0/1:node\n/0/0/1/0:node -> /0/1:node\n/0/1:node -> /:end\n";
+    let (status, bytes) = graph_of(rt.alloc(), INITIALISED, tree.as_bytes())?;
+    assert_eq!(rt; status, Status::Done);
+    assert_eq!(rt; bytes.as_slice(), written.as_bytes());
+    Ok(())
+}
+
+#[test]
 fn refuses_the_first_file_with_a_fault_by_its_place(rt: HostRuntime) -> Result<(), Fail> {
-    let rows: [(&[u8], &[u8], &str); 14] = [
+    let rows: [(&[u8], &[u8], &str); 17] = [
         (LIVE, b"Prog([]", "tree: Unexpected at 7\n"),
         (LIVE, b"", "tree: Unexpected at 0\n"),
         (LIVE, b"f(1.5)", "tree: Real at 2\n"),
@@ -123,11 +187,18 @@ fn refuses_the_first_file_with_a_fault_by_its_place(rt: HostRuntime) -> Result<(
             b"",
             "specification: Duplicate at 22\n",
         ),
-        (DEFINITIONS, b"Prog([])", "specification: not yet at 133\n"),
+        (DEFINITIONS, b"Prog([])", "specification: not yet at 204\n"),
+        (CONSTANTS, b"Prog([])", "specification: not yet at 224\n"),
+        (FIRST_MATCH, b"Prog([])", "specification: not yet at 60\n"),
         (
             b"module m control A(1) = entry -> exit",
             b"",
             "specification: not yet at 19\n",
+        ),
+        (
+            b"module m lattices T { elements A bottom A join A } control",
+            b"",
+            "specification: not yet at 18\n",
         ),
     ];
     for (spec, tree, written) in rows {
@@ -141,7 +212,7 @@ fn refuses_the_first_file_with_a_fault_by_its_place(rt: HostRuntime) -> Result<(
 /// A specification for each kind of fault and each place of it, with no fault before it.
 #[test]
 fn tells_each_fault_of_a_specification_at_its_place(rt: HostRuntime) -> Result<(), Fail> {
-    let rows: [(&str, &str); 39] = [
+    let rows: [(&str, &str); 49] = [
         (
             "module m signature start P F: Q -> P control",
             "Unknown at 30",
@@ -174,6 +245,10 @@ fn tells_each_fault_of_a_specification_at_its_place(rt: HostRuntime) -> Result<(
             "module m signature start P F: -> P control root G() = start -> end",
             "Unknown at 48",
         ),
+        (
+            "module m lattices T { elements A bottom A join A } functions f(T): U { A } control",
+            "Unknown at 67",
+        ),
         ("module m sorts E = A E = B control", "Duplicate at 21"),
         (
             "module m lattices T { elements A bottom A join A } functions f(T): T { A } control properties f: T",
@@ -197,6 +272,10 @@ fn tells_each_fault_of_a_specification_at_its_place(rt: HostRuntime) -> Result<(
             "Duplicate at 31",
         ),
         (
+            "module m control properties p: Map(name, Flat(int)) rules p(prev -> F(name n)) = p(prev)[n := bind n = p(prev)[n] yield flat(1)]",
+            "Duplicate at 94",
+        ),
+        (
             "module m lattices T { elements A B bottom A join A } control",
             "Arity at 18",
         ),
@@ -211,6 +290,10 @@ fn tells_each_fault_of_a_specification_at_its_place(rt: HostRuntime) -> Result<(
         (
             "module m signature start P F: -> P control root F(_) = start -> end",
             "Arity at 48",
+        ),
+        (
+            "module m lattices T { elements A B C D E F G H I J K L M N O P Q R S T U V W X Y bottom A join A } control",
+            "Arity at 18",
         ),
         (
             "module m control properties p: MaySet(name) rules p(prev -> _) = 1",
@@ -234,6 +317,18 @@ fn tells_each_fault_of_a_specification_at_its_place(rt: HostRuntime) -> Result<(
             "Sort at 80",
         ),
         (
+            "module m control properties p: MaySet((name, pos)) rules p(prev -> x @ F(str s)) = {(s, x)}",
+            "Sort at 85",
+        ),
+        (
+            "module m control properties p: MaySet(((pos, name), pos)) rules p(prev -> x @ F(str s)) = {((x, s), x)}",
+            "Sort at 96",
+        ),
+        (
+            "module m control properties p: Pair(MaySet(name), MaySet(pos)) rules p(prev -> x @ F(name n)) = (n, {x})",
+            "Sort at 97",
+        ),
+        (
             "module m control properties p: MaySet(name) rules p(prev -> _) = {x}",
             "Unbound at 66",
         ),
@@ -251,6 +346,11 @@ fn tells_each_fault_of_a_specification_at_its_place(rt: HostRuntime) -> Result<(
             "Unbound at 65",
         ),
         (
+            "module m control properties p: MaySet(name) rules p(_ -> next) = p(prev)",
+            "Unbound at 65",
+        ),
+        ("module m control properties p: MaySet(name) rules p(_.start) = p(prev)", "Unbound at 63"),
+        (
             "module m control properties p: MaySet(name) rules p(prev -> _) = {} p(_ -> next) = {}",
             "MixedDirection at 68",
         ),
@@ -258,6 +358,8 @@ fn tells_each_fault_of_a_specification_at_its_place(rt: HostRuntime) -> Result<(
             "module m control F(x) = entry -> x -> entry -> exit",
             "WrongEnd at 38",
         ),
+        ("module m control F(x) = start -> x -> exit", "WrongEnd at 24"),
+        ("module m control F(x) = entry -> exit -> x", "WrongEnd at 33"),
         (
             "module m control F(x) = entry -> x -> node x -> exit",
             "MixedItem at 38",
@@ -289,6 +391,87 @@ fn is_line(bytes: &[u8], cause: &str) -> bool {
         Some(rest) => rest.strip_suffix(b"\n") == Some(cause.as_bytes()),
         None => false,
     }
+}
+
+/// The refused path as a text, or that the tree fits.
+fn told(alloc: Global, answer: Result<(), TreeRefusal>) -> Result<List<u8>, AllocError> {
+    match answer {
+        Ok(()) => Ok(List::from_vec(Vec::from_slice(alloc, b"fits")?)),
+        Err(TreeRefusal::IllSorted(path)) => write_path(alloc, &path),
+        Err(TreeRefusal::NoMemory) => Ok(List::from_vec(Vec::from_slice(alloc, b"no memory")?)),
+    }
+}
+
+/// What is told of a tree that fits with a new part at the path; nothing of another tree.
+fn told_of_part(
+    alloc: Global,
+    spec: &TypedSpec,
+    tree: &Term,
+    path: &Path,
+    new: &Term,
+) -> Result<List<u8>, AllocError>
+    requires tree { term_size tree.now < 2 ^ 32 }
+    requires new { term_size new.now < 2 ^ 32 }
+{
+    match check_tree(alloc, spec, tree) {
+        Ok(()) => told(alloc, check_subtree(alloc, spec, tree, path, new)),
+        Err(_) => Ok(List::new(alloc)),
+    }
+}
+
+fn told_of_part_text(
+    alloc: Global,
+    spec: &TypedSpec,
+    tree: &Term,
+    path: &Path,
+    new: &[u8],
+) -> Result<List<u8>, AllocError>
+    requires tree { term_size tree.now < 2 ^ 32 }
+{
+    match aterm_text::read(alloc, new) {
+        Ok(new) => told_of_part(alloc, spec, tree, path, &new),
+        Err(_) => Ok(List::new(alloc)),
+    }
+}
+
+fn told_of_texts(
+    alloc: Global,
+    spec: &TypedSpec,
+    path: &Path,
+    new: &[u8],
+) -> Result<List<u8>, AllocError> {
+    match aterm_text::read(alloc, b"Prog([1])") {
+        Ok(tree) => told_of_part_text(alloc, spec, &tree, path, new),
+        Err(_) => Ok(List::new(alloc)),
+    }
+}
+
+/// What is told of `Prog([1])` with a new part at the path.
+fn told_in_place(alloc: Global, path: &Path, new: &[u8]) -> Result<List<u8>, AllocError> {
+    let mut folder = folder_of(alloc, TYPED, b"", u64::MAX)?;
+    match read_specification(alloc, &mut folder, "spec") {
+        Ok(Read::Accepted(spec)) => told_of_texts(alloc, &spec, path, new),
+        _ => Ok(List::new(alloc)),
+    }
+}
+
+#[test]
+fn a_new_part_fits_or_is_told_by_its_place_in_the_whole(rt: HostRuntime) -> Result<(), Fail> {
+    let alloc = rt.alloc();
+    let rows: [(&str, &str, &str); 6] = [
+        ("/0/0", "2", "fits"),
+        ("/0/0", "\"a\"", "/0/0"),
+        ("/0", "[1,\"a\"]", "/0/1"),
+        ("/0", "1", "/0"),
+        ("/", "Prog([])", "fits"),
+        ("/", "Num(1)", "/"),
+    ];
+    for (at, new, want) in rows {
+        let path = read_path(alloc, at.as_bytes()).ok().ok_or("no path")?;
+        let got = told_in_place(alloc, &path, new.as_bytes())?;
+        assert_eq!(rt; got.as_slice(), want.as_bytes(), "{at} {new}");
+    }
+    Ok(())
 }
 
 fn blanks(alloc: Global, count: usize) -> Result<Vec<u8>, AllocError> {
@@ -346,6 +529,18 @@ fn other_words_are_usage(rt: HostRuntime) -> Result<(), Fail> {
         assert_eq!(rt; run(alloc, &words, &mut folder, &mut sink), Status::Usage);
         assert!(rt; sink.written().is_empty());
     }
+    Ok(())
+}
+
+/// A refused specification is told, though the first call for the tree fails: the tree isn't read.
+#[test]
+fn a_file_behind_a_refused_one_is_not_read(rt: HostRuntime) -> Result<(), Fail> {
+    let alloc = rt.alloc();
+    let words = words_of(alloc, &["graph", "spec", "tree"])?;
+    let mut folder = folder_of(alloc, b"module m ?", b"Prog([])", 2)?;
+    let mut sink = MemorySink::new(alloc, 1 << 10, Vec::new(alloc))?;
+    assert_eq!(rt; run(alloc, &words, &mut folder, &mut sink), Status::Refused);
+    assert_eq!(rt; sink.written(), b"specification: BadCharacter at 9\n".as_slice());
     Ok(())
 }
 
