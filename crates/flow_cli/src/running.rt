@@ -26,7 +26,7 @@ use std::alloc::{AllocError, Global};
 /// Does what the words ask for, with files of the folder, and writes the output to the sink.
 ///
 /// `Done` and `Refused` come where the whole output was written: the output of the request, or the line of its first
-/// file that is missing, too large or not in the form. `Usage` comes where the words ask for nothing, `ReadFault` and
+/// file that is missing, too large or refused for what it holds. `Usage` comes where the words ask for nothing, `ReadFault` and
 /// `WriteFault` only where the folder's or the sink's count of faults rose in this call. Without such a rise, a run whose
 /// words ask for something ends with the status of its whole output, unless memory runs out.
 pub fn run<F: Folder, K: Sink>(

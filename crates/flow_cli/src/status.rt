@@ -7,7 +7,7 @@ ghost use Rattle.flow_cli.specs.Outcome.{number_of};
 pub enum Status {
     /// The whole output was written.
     Done = 0,
-    /// A file is missing, too large or not in the form; its line was written.
+    /// A file is missing, too large or refused for what it holds; its line was written.
     Refused = 1,
     /// The words ask for nothing that the program does; nothing was written.
     Usage = 2,
