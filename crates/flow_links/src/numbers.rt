@@ -11,7 +11,9 @@ use std::alloc::{AllocError, Global};
 /// The points of links, numbered by their places, and the successors of each by their numbers.
 #[derive(Drop)]
 pub struct PointGraph {
+    /// The points, each at the place of its number.
     pub points: IndexSet<Point>,
+    /// At the place of each point, the numbers of the points to which links lead from it, in the order of the links.
     pub successors: Vec<List<usize>>,
 }
 

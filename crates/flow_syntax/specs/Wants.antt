@@ -22,8 +22,8 @@ abbrev pub known_sort : Option Sort → Want
 known_sort (Some s) = known (element s)
 known_sort None = free
 
--- Another type than the wanted one is told of an expression of a form with types of this group. A pair is what its parts are: where a pair is told
--- that is another, so is a part of it, and that is the part's.
+-- Of an expression of a form with types of this group, another type is told than the wanted one. A pair is what its parts are: where another pair is
+-- told, it's a part of it that is another.
 abbrev pub IsOther : Shape → Typing → Telling → Type 0
 IsOther any_pair wanted telling = ⊥
 IsOther form wanted (is t) = t ≢ wanted

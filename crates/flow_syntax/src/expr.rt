@@ -4,15 +4,21 @@ use flow_term::{Boxed, List, Text};
 #[cycle(expr)]
 #[derive(Drop)]
 pub struct Expr {
+    /// The offset of its first byte in the text of the specification.
     pub place: u64,
+    /// What it is, with its parts.
     pub kind: ExprKind,
 }
 
+/// What an expression is.
 #[cycle(expr)]
 #[derive(Drop)]
 pub enum ExprKind {
+    /// An integer.
     Int(i64),
+    /// A text in quotes.
     Str(Text),
+    /// `true` or `false`.
     Truth(bool),
     /// The bottom of the type that is expected.
     Bottom,
@@ -28,7 +34,9 @@ pub enum ExprKind {
     Call(Text, List<Expr>),
     /// An element as a value of a flat lattice.
     MakeFlat(Boxed<Expr>),
+    /// The first part of a pair.
     Fst(Boxed<Expr>),
+    /// The second part of a pair.
     Snd(Boxed<Expr>),
     /// A pair.
     Both(Boxed<Expr>, Boxed<Expr>),
@@ -42,15 +50,21 @@ pub enum ExprKind {
     Look(Boxed<Expr>, Boxed<Expr>),
     /// A map with the value at a key replaced.
     Update(Boxed<Expr>, Boxed<Expr>, Boxed<Expr>),
+    /// An operation on two sets, or the join of two values.
     Set2(SetOp, Boxed<Expr>, Boxed<Expr>),
+    /// An operation on two integers.
     Arith(ArithOp, Boxed<Expr>, Boxed<Expr>),
     /// A number with the other sign.
     Minus(Boxed<Expr>),
+    /// A comparison of two elements.
     Compare(CompareOp, Boxed<Expr>, Boxed<Expr>),
     /// Whether an element is in a set.
     Member(Boxed<Expr>, Boxed<Expr>),
+    /// Whether both conditions hold.
     And(Boxed<Expr>, Boxed<Expr>),
+    /// Whether at least one of two conditions holds.
     Or(Boxed<Expr>, Boxed<Expr>),
+    /// Whether a condition does not hold.
     Not(Boxed<Expr>),
     /// A flat value, whose element has this name in the second expression.
     Bind(Text, Boxed<Expr>, Boxed<Expr>),
@@ -69,26 +83,39 @@ pub enum Side {
     Next,
 }
 
+/// An operation on two sets, or the join of two values.
 #[derive(Clone, Copy, Debug, PartialEq, Eq)]
 pub enum SetOp {
-    /// The join of the type.
+    /// `join`: the join of the type.
     Join,
+    /// `union`: what is in one of the sets or in both.
     Union,
+    /// `inter`: what is in both sets.
     Inter,
+    /// `minus`: what is in the first set and not in the second.
     Minus,
 }
 
+/// An operation on two integers, which wraps at 64 bits.
 #[derive(Clone, Copy, Debug, PartialEq, Eq)]
 pub enum ArithOp {
+    /// The sum.
     Add,
+    /// The first less the second.
     Sub,
+    /// The product.
     Mul,
 }
 
+/// A comparison of two elements.
 #[derive(Clone, Copy, Debug, PartialEq, Eq)]
 pub enum CompareOp {
+    /// `==`: they are equal.
     Eq,
+    /// `!=`: they differ.
     Ne,
+    /// `<`: the first integer is less than the second.
     Lt,
+    /// `<=`: the first integer is at most the second.
     Le,
 }

@@ -6,15 +6,20 @@ use crate::types::LatticeType;
 /// A property of nodes, with the lattice of its values.
 #[derive(Debug, Drop)]
 pub struct PropDecl {
+    /// Its name.
     pub name: Named,
+    /// The lattice of its values.
     pub lattice: LatticeType,
 }
 
 /// A rule of a property.
 #[derive(Drop)]
 pub struct PropRule {
+    /// The property that it is a rule of.
     pub property: Named,
+    /// Where it applies.
     pub trigger: Trigger,
+    /// The value that it gives there.
     pub body: Expr,
 }
 
@@ -34,7 +39,9 @@ pub enum Trigger {
 /// The way in which a property follows the control flow.
 #[derive(Clone, Copy, Debug, PartialEq, Eq)]
 pub enum Direction {
+    /// With the control flow, from predecessors.
     Forward,
+    /// Against the control flow, from successors.
     Backward,
 }
 

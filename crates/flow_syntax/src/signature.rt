@@ -6,14 +6,18 @@ use flow_term::{Boxed, List};
 pub struct Signature {
     /// The sort of a whole tree.
     pub start: Named,
+    /// The constructors of terms, in the order of the text.
     pub constructors: List<Constructor>,
 }
 
 /// A constructor of terms, with the sorts of its arguments and the sort of what it makes.
 #[derive(Debug, Drop)]
 pub struct Constructor {
+    /// Its name.
     pub name: Named,
+    /// The sorts of its arguments, in their order.
     pub args: List<TreeSort>,
+    /// The sort of what it makes.
     pub result: Named,
 }
 
@@ -22,11 +26,14 @@ pub struct Constructor {
 pub enum TreeSort {
     /// A sort that constructors make.
     Sort(Named),
+    /// Strings.
     Str,
+    /// Integers.
     Int,
     /// Each tree is of this sort.
     Any,
     /// Lists of trees of one sort.
     Items(Boxed<TreeSort>),
+    /// Tuples with a part of each of these sorts, in their order.
     Tuple(List<TreeSort>),
 }

@@ -19,27 +19,39 @@ use flow_term::{List, Text};
 /// A name, with the offset of its first byte.
 #[derive(Debug, Drop)]
 pub struct Named {
+    /// The name, without quotes.
     pub text: Text,
+    /// The offset of its first byte in the text of the specification.
     pub place: u64,
 }
 
 /// A specification: the name of a module, and its sections. A section that is left out is empty.
 #[derive(Drop)]
 pub struct Spec {
+    /// The name of the module.
     pub name: Named,
+    /// Which trees there are. `None`: each tree is allowed.
     pub signature: Option<Signature>,
+    /// The sorts of listed elements.
     pub enums: List<EnumDecl>,
+    /// The lattices that are given by tables.
     pub lattices: List<TableDecl>,
+    /// The functions that are given by tables.
     pub functions: List<FunctionDecl>,
+    /// The control rules, in the order of the text.
     pub control: List<FlowRule>,
+    /// The properties, in the order of the text.
     pub properties: List<PropDecl>,
+    /// The rules of the properties, in the order of the text.
     pub rules: List<PropRule>,
+    /// The messages, in the order of the text.
     pub messages: List<Message>,
 }
 
 /// A specification without a fault, with what is told of it.
 #[derive(Drop)]
 pub struct TypedSpec {
+    /// The specification.
     pub spec: Spec,
     /// The direction of each property, in the order of their declarations.
     pub directions: List<Direction>,

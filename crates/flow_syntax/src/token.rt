@@ -11,6 +11,7 @@ pub enum TokenKind {
     Quoted(Text),
     /// A reserved word.
     Word(Text),
+    /// A symbol, as it is written.
     Symbol(Text),
     /// The end of the text.
     Eof,
@@ -19,6 +20,8 @@ pub enum TokenKind {
 /// A token of a specification, with the offset of its first byte.
 #[derive(Debug, Drop)]
 pub struct Token {
+    /// The offset of its first byte in the text of the specification.
     pub place: u64,
+    /// What it is.
     pub kind: TokenKind,
 }

@@ -8,10 +8,13 @@ pub enum ElemSort {
     Name,
     /// Positions of the tree.
     Pos,
+    /// Strings.
     Str,
+    /// Integers.
     Int,
     /// The items of a declared enum.
     Enum(Named),
+    /// Pairs with a part of each of these sorts.
     Pair(Boxed<ElemSort>, Boxed<ElemSort>),
 }
 
@@ -24,7 +27,9 @@ pub enum LatticeType {
     Must(ElemSort),
     /// Bottom, the elements side by side, and top.
     Flat(ElemSort),
+    /// Maps with keys of this sort and values of this type.
     Map(ElemSort, Boxed<LatticeType>),
+    /// Pairs with a part of each of these types.
     Pair(Boxed<LatticeType>, Boxed<LatticeType>),
     /// A declared lattice with a table.
     Table(Named),
@@ -33,7 +38,10 @@ pub enum LatticeType {
 /// The type of an expression.
 #[derive(Debug, Drop)]
 pub enum ExprType {
+    /// A value of this lattice.
     Lattice(LatticeType),
+    /// An element of this sort.
     Elem(ElemSort),
+    /// A condition: true or false.
     Truth,
 }

@@ -1,16 +1,16 @@
 -- The derived order of elements is that of the specification, and elements that tie are the same.
-use Rattle.std.proofs.Common.{◌≡◌, ℕ, refl, sym, ap, ◌∙◌, subst}
+use Rattle.std.proofs.Common.{◌≡◌, refl, sym, ap, ◌∙◌, subst}
 use Rattle.std.specs.Ordering.{ordering_then}
 use Rattle.std.specs.declared.cmp.Ordering.{Ordering}
 use Rattle.std.specs.declared.cmp.Ordering.TheVariants.{Less, Equal, Greater}
 use Rattle.std.proofs.lemmas.Map.Lookups.{exact_signed, exact_bytes}
 use denote.Hole.Compared.{Rel, compared, compared_is}
 use denote.Hole.Carrier.{Values}
-use Rattle.flow_term.specs.declared.elem.Elem.{Elem, Elem-F, out-Elem, roll-Elem, out-roll-Elem, roll-out-Elem, fold-Elem, fold-roll-Elem, map-Elem, ind-Elem}
+use Rattle.flow_term.specs.declared.elem.Elem.{Elem, Elem-F, out-Elem, roll-Elem, out-roll-Elem, roll-out-Elem, fold-roll-Elem, map-Elem, ind-Elem}
 use Rattle.flow_term.specs.declared.elem.Elem.TheBlock as block
 use Rattle.flow_term.specs.contracts.elem.ElemOrd.TheImpl as order
 use Rattle.flow_term.specs.contracts.elem.ElemOrd.TheImpl.Laws as laws
-use Rattle.flow_term.specs.Elements.{rank, layer_cmp, elem_cmp}
+use Rattle.flow_term.specs.Elements.{layer_cmp, elem_cmp}
 
 abbrev everywhere : Rel block.the_members (Values block.the_members block.the_sigs block.the_carrier) block.the_depth Ordering
 everywhere = compared block.the_members (Values block.the_members block.the_sigs block.the_carrier) block.the_depth Ordering Equal order.the_step

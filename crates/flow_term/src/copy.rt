@@ -4,7 +4,7 @@ use crate::list::List;
 use crate::term::{Kind, Term};
 use std::alloc::{AllocError, Global};
 
-/// An equal term.
+/// An equal term. Fails only for want of memory.
 #[cycle(copy_term)]
 pub fn copy_term(alloc: Global, term: &Term) -> Result<Term, AllocError>
     ensures { IfOk result (λ copy. copy ≡ term.now) }

@@ -10,7 +10,7 @@ use std::alloc::{AllocError, Global};
 
 /// What sets and maps are made of: ordered values with copies, of which no two different ones tie.
 pub trait Element: Ord + Drop {
-    /// A value that equals this one.
+    /// A value that equals this one. Fails only for want of memory.
     fn copy(&self, alloc: Global) -> Result<Self, AllocError>
     where
         Self: Sized,

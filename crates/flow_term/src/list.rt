@@ -25,6 +25,7 @@ impl<T> List<T> {
     ghost use Rattle.std.specs.Option.{option_copied_mut};
     ghost use Rattle.flow_term.specs.Lending.{LendsItem};
 
+    /// The empty list. Takes no memory.
     pub fn new(alloc: Global) -> List<T>
         ensures { result ≡ [] }
     {
@@ -33,18 +34,21 @@ impl<T> List<T> {
         }
     }
 
+    /// The list of these items, in their order.
     pub fn from_vec(items: Vec<T>) -> List<T>
         ensures { result ≡ items.items }
     {
         List { items }
     }
 
+    /// The items, in their order.
     pub fn as_slice(&self) -> &[T]
         ensures { result.now ≡ self.now }
     {
         self.items.as_slice()
     }
 
+    /// The item at this place, to be read and changed. The first place is 0. `None` where the list ends before it.
     pub fn get_mut(&mut self, at: usize) -> Option<&mut T>
         ensures* writes_back { sem 𝓛 (LendsItem T.row self.entry at result) }
         ensures item { option_copied_mut result ≡ slice_get self.old at }
@@ -52,6 +56,7 @@ impl<T> List<T> {
         self.items.get_mut(at)
     }
 
+    /// The number of items.
     pub fn len(&self) -> usize
         ensures { result ≡ length self.now }
     {
@@ -66,6 +71,7 @@ impl<T> List<T> {
         self.items.pop()
     }
 
+    /// The items, in their order.
     pub fn into_vec(self) -> Vec<T>
         ensures { result.items ≡ self }
     {
@@ -75,6 +81,7 @@ impl<T> List<T> {
 }
 
 impl<T: Drop> List<T> {
+    /// Puts an item at the end. Fails only for want of memory, and then the list stays as it was.
     pub fn push(&mut self, item: T) -> Result<(), AllocError>
         ensures ok { OnOk result (self.new ≡ self.old ++ item ∷ []) }
         ensures err { OnErr result (self.new ≡ self.old) }

@@ -30,13 +30,14 @@ impl Model for Path {
 }
 
 impl Path {
+    /// The path of these child numbers, from the root on.
     pub fn from_vec(steps: Vec<u32>) -> Path
         ensures { result ≡ steps.items }
     {
         Path { steps }
     }
 
-    /// An equal path.
+    /// An equal path. Fails only for want of memory.
     pub fn duplicate(&self) -> Result<Path, AllocError>
         ensures { IfOk result (λ path. path ≡ self.now) }
     {
@@ -45,6 +46,7 @@ impl Path {
         })
     }
 
+    /// The child numbers, from the root on.
     pub fn as_slice(&self) -> &[u32]
         ensures { result.now ≡ self.now }
     {

@@ -9,17 +9,25 @@ use crate::text::Text;
 #[cycle(term)]
 #[derive(Drop)]
 pub struct Term {
+    /// What it is, with its children.
     pub kind: Kind,
+    /// Its annotations, in the order of the text.
     pub annos: List<Term>,
 }
 
+/// What a term is.
 #[cycle(term)]
 #[derive(Drop)]
 pub enum Kind {
+    /// An application: its name and its arguments.
     Apply(Text, List<Term>),
+    /// A tuple: its parts.
     Tuple(List<Term>),
+    /// A list: its items.
     Items(List<Term>),
+    /// An integer.
     Int(i64),
+    /// A string.
     Str(Text),
 }
 

@@ -186,5 +186,9 @@ fn what_holds_a_value_is_duplicated(rt: HostRuntime) -> Result<(), Fail> {
         value: Elem::Int(3),
     };
     assert!(rt; bound.duplicate(alloc)? == bound);
+    let mut bindings: Bindings = List::new(alloc);
+    bindings.push(bound)?;
+    let again = bindings.duplicate(alloc)?;
+    assert!(rt; again.as_slice() == bindings.as_slice());
     Ok(())
 }

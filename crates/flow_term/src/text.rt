@@ -27,12 +27,14 @@ impl Model for Text {
 }
 
 impl Text {
+    /// The text of a string.
     pub fn from_string(text: String) -> Text
         ensures { result ≡ string_bytes text }
     {
         Text { text }
     }
 
+    /// The empty text. Takes no memory.
     pub fn new(alloc: Global) -> Text
         ensures { result ≡ [] }
     {
@@ -52,7 +54,7 @@ impl Text {
         }
     }
 
-    /// Puts a byte of ASCII at the end.
+    /// Puts a byte of ASCII at the end. Fails only for want of memory, and then the text stays as it was.
     pub fn push_ascii(&mut self, byte: u8) -> Result<(), AllocError>
         requires { byte < 128 }
         ensures ok { OnOk result (self.new ≡ self.old ++ byte ∷ []) }
@@ -61,6 +63,7 @@ impl Text {
         self.text.push(char::from(byte))
     }
 
+    /// An equal text. Fails only for want of memory.
     pub fn duplicate(&self) -> Result<Text, AllocError>
         ensures { IfOk result (λ text. text ≡ self.now) }
     {
@@ -69,6 +72,7 @@ impl Text {
         })
     }
 
+    /// The text as a string.
     pub fn as_str(&self) -> &str
         ensures { result.now ≡ self.now }
     {

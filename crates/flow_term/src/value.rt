@@ -25,6 +25,7 @@ pub enum Value {
     Flat(Elem),
     /// A map, its keys rising.
     Map(List<Entry>),
+    /// A pair of values.
     Pair(Boxed<Value>, Boxed<Value>),
     /// An element of a declared lattice.
     Item(Text),
@@ -34,21 +35,27 @@ pub enum Value {
 #[cycle(value)]
 #[derive(Drop)]
 pub struct Entry {
+    /// The key.
     pub key: Elem,
+    /// The value at the key.
     pub value: Value,
 }
 
 /// The value of a property at a node.
 #[derive(Drop)]
 pub struct Valued {
+    /// The node, and the property at it.
     pub unknown: Unknown,
+    /// The value that the property has there.
     pub value: Value,
 }
 
 /// What a variable of a pattern stands for.
 #[derive(Debug, PartialEq, Eq, Drop)]
 pub struct Bound {
+    /// The name of the variable.
     pub name: Text,
+    /// The element that it stands for.
     pub value: Elem,
 }
 
@@ -95,6 +102,25 @@ impl Bound {
             value: self.value.copy(alloc)?,
         })
     }
+}
+
+impl List<Bound> {
+    /// Equal bindings. Fails only for want of memory.
+    pub fn duplicate(&self, alloc: Global) -> Result<Bindings, AllocError>
+        ensures { IfOk result (λ copy. copy ≡ self.now) }
+    {
+        copy_bounds(alloc, self.as_slice())
+    }
+}
+
+fn copy_bounds(alloc: Global, bounds: &[Bound]) -> Result<Bindings, AllocError>
+    ensures { IfOk result (λ copy. copy ≡ bounds.now) }
+{
+    let mut copy = List::new(alloc);
+    for bound in bounds {
+        copy.push(bound.duplicate(alloc)?)?;
+    }
+    Ok(copy)
 }
 
 #[cycle(copy_value)]

@@ -7,8 +7,11 @@ use std::marker::PhantomData;
 /// No element yet, one element, or more than one.
 #[derive(Debug, Drop)]
 pub enum FlatV<E> {
+    /// No element yet.
     Bottom,
+    /// This one element.
     Flat(E),
+    /// More than one element.
     Top,
 }
 

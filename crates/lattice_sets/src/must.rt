@@ -9,7 +9,9 @@ use std::marker::PhantomData;
 /// What must hold where it is reached, or that it is not reached.
 #[derive(Debug, Drop)]
 pub enum MustV<E: Element> {
+    /// It is not reached.
     Unreached,
+    /// It is reached, and these items must hold there.
     Set(SortedSet<E>),
 }
 

@@ -5,7 +5,9 @@ use std::alloc::{AllocError, Global};
 /// A value of each of two lattices.
 #[derive(Debug, Drop)]
 pub struct PairV<V, W> {
+    /// The value of the first lattice.
     pub left: V,
+    /// The value of the second lattice.
     pub right: W,
 }
 

@@ -16,7 +16,9 @@ pub const LIMIT: u64 = 256;
 /// Why there is no value: a fault, with the tokens from it on, or want of memory.
 #[derive(Drop)]
 pub enum Refusal<'a> {
+    /// The fault, with the tokens from it on.
     Fault(Cause, &'a [Token]),
+    /// Memory ran out.
     NoMemory,
 }
 
@@ -33,6 +35,7 @@ impl From<AllocError> for Refusal<'_> {
 /// The tokens that are still to be read, each with its kind.
 #[derive(Clone, Copy)]
 pub struct Cursor<'a> {
+    /// The tokens, the next one first.
     pub tokens: &'a [Token],
     kinds: &'a [Kind],
     ghost matched: { map code_of kinds.now ≡ map kind_of tokens.now },
@@ -62,6 +65,7 @@ fn is_one_of(kind: Kind, kinds: &[Kind]) -> bool
 }
 
 impl<'a> Cursor<'a> {
+    /// The cursor at the first of these tokens. `kinds` are their kinds.
     pub fn new(tokens: &'a [Token], kinds: &'a [Kind]) -> Cursor<'a>
         requires { map code_of kinds.now ≡ map kind_of tokens.now }
         ensures { result.tokens.now ≡ tokens.now }

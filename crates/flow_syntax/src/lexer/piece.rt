@@ -10,8 +10,11 @@ use crate::words::SYMBOLS;
 pub enum Piece {
     /// A blank or a comment.
     Blank(usize),
+    /// An identifier or a reserved word.
     Name(usize),
+    /// An integer.
     Number(usize),
+    /// A symbol.
     Symbol(usize),
     /// A quote.
     Quote,

@@ -1,5 +1,4 @@
 use Rattle.std.proofs.Common.{◌≡◌, ◌-◌, sym, ◌∙◌, Some, length, take, drop, add-one, refl}
-use Rattle.std.specs.Prelude.{decimal}
 use Rattle.flow_term.proofs.StepTexts.{digits_behind, digits_in_front}
 use Rattle.flow_term.proofs.path_text.first_step.Goals as goal
 

@@ -1,4 +1,4 @@
-use Rattle.std.proofs.Common.{◌≡◌, ℕ, true, ap, subst, ◌∙◌, sym, List, Some, get_or, length, ◌≤◌}
+use Rattle.std.proofs.Common.{◌≡◌, true, ap, ◌∙◌, sym, get_or, length, ◌≤◌}
 use Rattle.std.specs.Prelude.{Ok, IfOk, decimal}
 use Rattle.std.specs.Str.{all_ascii_digits}
 use Rattle.flow_term.proofs.StepTexts.{no_leading_zero, parsed, parsed_decimal}
