@@ -12,13 +12,13 @@ use Rattle.flow_syntax.specs.declared.spec.Spec.{Spec}
 use Rattle.flow_syntax.specs.Expressions.{ExprLayer, expr_layer, parts_in, parts_of, preorder, all_of_option, expressions_of_message, expressions_of}
 use Rattle.flow_syntax.specs.ExprFaults.{body_of, message_scope}
 use Rattle.flow_syntax.specs.ExprPlaces.{Place, place, optional, arguments, declared_arguments, truth_want, parts_in as places_in, parts_of as places_of}
-use Rattle.flow_syntax.specs.ExprTypes.{HaveTypes, none, next, wholes_of}
+use Rattle.flow_syntax.specs.ExprTypes.{HasType, HaveTypes, none, next, AreTypes, wholes_of}
 use Rattle.flow_syntax.specs.Scopes.{Scope}
 use Rattle.flow_syntax.specs.Telling.{function_named}
 use Rattle.flow_syntax.specs.Types.{Typing}
 use Rattle.flow_syntax.specs.Wants.{Want, key_want, value_want, element_want}
 use Rattle.flow_syntax.proofs.Preorders.{preorder_out}
-use Rattle.expr_types.specs.Listing.{IsTypeOf, TypesAreInOrder}
+use Rattle.expr_types.specs.Listing.{ArePlaces, nowhere, there, AreInOrder, TypesAreInOrder}
 
 -- the expressions at places
 abbrev exprs : List Place → List Expr
@@ -43,6 +43,11 @@ zip_append R [] (y ∷ ys) us vs h k = absurd h
 zip_append R (x ∷ xs) [] us vs h k = absurd h
 zip_append R (x ∷ xs) (y ∷ ys) us vs h k = (h.0, zip_append R xs ys us vs h.1 k)
 
+zip_split : {X Y : Type 0} (R : X → Y → Type 0) (xs us : List X) (vs : List Y) → AllZip R (xs ++ us) vs → (ys : List Y) × ((ws : List Y) × ((vs ≡ ys ++ ws) × (AllZip R xs ys × AllZip R us ws)))
+zip_split R [] us vs h = ([], (vs, (refl, (tt, h))))
+zip_split R (x ∷ xs) us [] h = absurd h
+zip_split {Y} R (x ∷ xs) us (v ∷ vs) h = let k = zip_split R xs us vs h.1 in (v ∷ k.0, (k.1.0, (ap (λ (l : List Y). v ∷ l) k.1.1.0, ((h.0, k.1.1.1.0), k.1.1.1.1))))
+
 module _ (spec : Spec) where
   -- the places of the parts of an expression are those of its parts, in their order
   exprs_parts : (s : Scope) (w : Want) (layer : ExprLayer) → exprs (places_in spec s w layer) ≡ parts_in layer
@@ -54,14 +59,38 @@ module _ (spec : Spec) where
       ∙ ap (λ (xs : List Expr). xs ++ exprs (map (place s (value_want w)) vs)) (exprs_map s (key_want w) ks) ∙ ap (λ (xs : List Expr). ks ++ xs) (exprs_map s (value_want w) vs)
   exprs_parts s w layer = refl
 
-  in_order : (ps : List Place) (ts : List Typing) → HaveTypes spec ps ts → AllZip (IsTypeOf spec) (flat_map preorder (exprs ps)) ts
-  in_order _ _ none = tt
+  -- the places of expressions and all their parts: those stand there, and have their types
+  record InOrder (ps : List Place) (ts : List Typing) : Type 0 where
+    pub places : List Place
+    pub all : ArePlaces spec ps places
+    pub stand : exprs places ≡ flat_map preorder (exprs ps)
+    pub have : AllZip (HasType spec) places ts
+
+  in_order : (ps : List Place) (ts : List Typing) → HaveTypes spec ps ts → InOrder ps ts
+  in_order _ _ none = record { places = []; all = nowhere; stand = refl; have = tt }
   in_order _ _ (next p ps t inside others has d e) =
-      subst (λ (es : List Expr). AllZip (IsTypeOf spec) (es ++ flat_map preorder (exprs ps)) (t ∷ inside ++ others)) (sym (preorder_out p.expr)) (
-        record { place = p; stands = refl; has = has },
-        zip_append (IsTypeOf spec) (flat_map preorder (parts_of p.expr)) inside (flat_map preorder (exprs ps)) others
-            (subst (λ (es : List Expr). AllZip (IsTypeOf spec) (flat_map preorder es) inside) (exprs_parts p.scope p.want (expr_layer p.expr)) (in_order (places_of spec p) inside d)) (in_order ps others e),
-      )
+      let i = in_order (places_of spec p) inside d in
+      let o = in_order ps others e in
+      record {
+        places = p ∷ i.places ++ o.places;
+        all = there p ps i.places o.places i.all o.all;
+        stand = ap (λ (es : List Expr). p.expr ∷ es) (
+            map-append (λ (q : Place). q.expr) i.places o.places
+            ∙ ap (λ (es : List Expr). es ++ exprs o.places) i.stand
+            ∙ ap (λ (es : List Expr). flat_map preorder es ++ exprs o.places) (exprs_parts p.scope p.want (expr_layer p.expr))
+            ∙ ap (λ (es : List Expr). flat_map preorder (parts_of p.expr) ++ es) o.stand)
+            ∙ ap (λ (es : List Expr). es ++ flat_map preorder (exprs ps)) (sym (preorder_out p.expr));
+        have = (has, zip_append (HasType spec) i.places inside o.places others i.have o.have);
+      }
+
+  -- types that the places have are those of the expressions there and all their parts
+  typed_at : (ps places : List Place) (ts : List Typing) → ArePlaces spec ps places → AllZip (HasType spec) places ts → HaveTypes spec ps ts
+  typed_at _ _ [] nowhere h = none
+  typed_at _ _ (t ∷ ts) nowhere h = absurd h
+  typed_at _ _ [] (there p ps inner others d e) h = absurd h
+  typed_at _ _ (t ∷ ts) (there p ps inner others d e) h =
+      let k = zip_split (HasType spec) inner others ts h.1 in
+      subst (λ (l : List Typing). HaveTypes spec (p ∷ ps) (t ∷ l)) (sym k.1.1.0) (next p ps t k.0 k.1.0 h.0 (typed_at (places_of spec p) inner k.0 d k.1.1.1.0) (typed_at ps others k.1.0 e k.1.1.1.1))
 
   -- WHOLE EXPRESSIONS
 
@@ -84,5 +113,10 @@ module _ (spec : Spec) where
       ∙ ap (λ (es : List Expr). es ++ flat_map preorder (exprs (flat_map (λ m. optional (message_scope m) truth_want m.condition) spec.messages))) (bodies spec.rules)
       ∙ ap (λ (es : List Expr). flat_map (λ rule. preorder rule.body) spec.rules ++ es) (conditions spec.messages)
 
+types_stand : (spec : Spec) (types : List Typing) → AreTypes spec types → AreInOrder spec types
+types_stand spec types have =
+    let h = in_order spec (wholes_of spec) types have in
+    record { places = h.places; all = h.all; stand = h.stand ∙ wholes spec; have = h.have }
+
 pub types_in_order : TypesAreInOrder
-types_in_order spec types have = subst (λ (es : List Expr). AllZip (IsTypeOf spec) es types) (wholes spec) (in_order spec (wholes_of spec) types have)
+types_in_order spec types = (types_stand spec types, λ h. typed_at spec (wholes_of spec) h.places types h.all h.have)

@@ -1,7 +1,6 @@
 -- The types with which expressions are listed, whether they have faults or not.
-use Rattle.std.specs.Prelude.{◌≡◌, List, [], ◌∷◌, ◌++◌}
+use Rattle.std.specs.Prelude.{◌≡◌, List, [], ◌∷◌, ◌++◌, map}
 use Rattle.std.specs.List.{AllZip}
-use Rattle.flow_syntax.specs.declared.expr.Expr.{Expr}
 use Rattle.flow_syntax.specs.declared.spec.Spec.{Spec}
 use Rattle.flow_syntax.specs.Expressions.{expressions_of}
 use Rattle.flow_syntax.specs.ExprPlaces.{Place, parts_of}
@@ -33,12 +32,21 @@ pub record Lists (spec : Spec) (ps : List Place) (old new : List Typing) : Type 
 abbrev pub FaultlessExpressionsHaveTypes : Type 0
 FaultlessExpressionsHaveTypes = (spec : Spec) (types : List Typing) → HasNoFault spec → AreListed spec (wholes_of spec) types → AreTypes spec types
 
--- An expression has this type at a place where it stands.
-pub record IsTypeOf (spec : Spec) (e : Expr) (t : Typing) : Type 0 where
-  pub place : Place
-  pub stands : place.expr ≡ e
-  pub has : HasType spec place t
+-- Expressions and all their parts stand at these places, an outer one before its parts.
+pub data ArePlaces (spec : Spec) : List Place → List Place → Type 0 where
+  nowhere : ArePlaces spec [] []
+  there : (p : Place) (ps inner others : List Place) → ArePlaces spec (parts_of spec p) inner → ArePlaces spec ps others → ArePlaces spec (p ∷ ps) (p ∷ inner ++ others)
 
--- The types of all expressions of a specification are those of its expressions in their order, one for each.
+-- These types stand in the order of a specification's expressions, one for each.
+pub record AreInOrder (spec : Spec) (types : List Typing) : Type 0 where
+  -- at the places of its whole expressions and of all their parts
+  pub places : List Place
+  pub all : ArePlaces spec (wholes_of spec) places
+  -- its expressions stand, in their order,
+  pub stand : map (λ p. p.expr) places ≡ expressions_of spec
+  -- and each has there the type with its number
+  pub have : AllZip (HasType spec) places types
+
+-- Types are those of all expressions of a specification exactly where they stand in the order of its expressions, one for each.
 abbrev pub TypesAreInOrder : Type 0
-TypesAreInOrder = (spec : Spec) (types : List Typing) → AreTypes spec types → AllZip (IsTypeOf spec) (expressions_of spec) types
+TypesAreInOrder = (spec : Spec) (types : List Typing) → (AreTypes spec types → AreInOrder spec types) × (AreInOrder spec types → AreTypes spec types)

@@ -9,7 +9,8 @@ pub fn faultless_expressions_have_types()
     ensures { FaultlessExpressionsHaveTypes }
 {}
 
-/// The types of all expressions of a specification are as many as its expressions, and each is that of the expression with its number.
+/// Types are those of all expressions of a specification exactly where they are as many as its expressions, and each is one that the expression
+/// with its number has at the place where it stands: in the scope there, and with what is wanted of its type there.
 pub fn types_are_in_order()
     ensures { TypesAreInOrder }
 {}
