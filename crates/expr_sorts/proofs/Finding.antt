@@ -1,41 +1,21 @@
 -- What is found in a list is the item with the number that a look-up has.
-use Rattle.std.proofs.Common.{◌≡◌, ℕ, suc, ◌+◌, ltb, length, get_or, is_some, inl, inr, Bool, true, false, cond, List, [], ◌∷◌, Option, None, Some, refl, sym, ap, ◌∙◌, arith}
-use Rattle.std.specs.Prelude.{find, slice_get, option_and_then}
+use Rattle.std.proofs.Common.{◌≡◌, ℕ, ltb, length, get_or, is_some, inl, inr, Bool, true, false, cond, List, [], ◌∷◌, Option, None, Some, refl, sym, ap, ◌∙◌, bytes_eq}
+use Rattle.std.specs.Prelude.{find, map, slice_get, option_and_then}
+use Rattle.std.specs.HashMap.{HashMap, get}
 use Rattle.std.specs.List.{position_from}
+use Rattle.std.specs.Map.{lookup}
 use Rattle.std.specs.Option.{option_map, option_copied, IfSome}
 use Rattle.std.specs.Borrow.{Bor}
 use Rattle.std.proofs.lemmas.Bool.{true≢false}
 use Rattle.std.proofs.lemmas.Bool.Decides.{Decides-ltb}
 use Rattle.std.proofs.lemmas.Option.{slice_get_cases, slice_get_read}
-use Rattle.flow_syntax.specs.declared.spec.Spec.{Spec}
-use Rattle.flow_syntax.specs.Telling.{property_named, function_named, enum_with, lattice_with}
-use Rattle.spec_names.specs.declared.names.Names.{Names}
-use Rattle.spec_names.specs.Tables.{AreNames, property_in, function_in, enum_of_item_in, lattice_of_element_in}
-
-position_from-next : {T : Type 0} (t : T → Bool) (n : ℕ) (xs : List T) → position_from t (n + 1) xs ≡ option_map (λ k. k + 1) (position_from t n xs)
-position_from-next t n [] = refl
-position_from-next t n (x ∷ xs) = by (position_from-next t (n + 1) xs) (t x)
-  where
-    by : position_from t (n + 1 + 1) xs ≡ option_map (λ k. k + 1) (position_from t (n + 1) xs) → (b : Bool)
-        → cond b (Some (n + 1)) (position_from t (n + 1 + 1) xs) ≡ option_map (λ k. k + 1) (cond b (Some n) (position_from t (n + 1) xs))
-    by rest true = refl
-    by rest false = rest
-
-find-position_from : {T : Type 0} (t : T → Bool) (xs : List T) → find t xs ≡ option_and_then (slice_get xs) (position_from t 0 xs)
-find-position_from t [] = refl
-find-position_from t (x ∷ xs) = by (find-position_from t xs) (t x)
-  where
-    one_more : (k : ℕ) → suc k ≡ k + 1
-    one_more k = omega arith
-
-    behind : (o : Option ℕ) → option_and_then (slice_get xs) o ≡ option_and_then (slice_get (x ∷ xs)) (option_map (λ k. k + 1) o)
-    behind None = refl
-    behind (Some k) = ap (slice_get (x ∷ xs)) (one_more k)
-
-    by : find t xs ≡ option_and_then (slice_get xs) (position_from t 0 xs) → (b : Bool)
-        → cond b (Some x) (find t xs) ≡ option_and_then (slice_get (x ∷ xs)) (cond b (Some 0) (position_from t 1 xs))
-    by rest true = refl
-    by rest false = rest ∙ behind (position_from t 0 xs) ∙ sym (ap (option_and_then (slice_get (x ∷ xs))) (position_from-next t 0 xs))
+use Rattle.indexmap.specs.IndexMap.{insert_entry}
+use Rattle.indexmap.proofs.CallerLemmas.{insert_entry-new}
+use Rattle.spec_names.specs.Tables.{or_where}
+use Rattle.spec_names.proofs.Finding.{found_at}
+use Rattle.spec_names.proofs.TableLemmas.{lookup-push}
+use Rattle.expr_sorts.specs.declared.variables.PatternVariable.{PatternVariable}
+use Rattle.expr_sorts.specs.Variables.{find_named, number_in, pattern_variable}
 
 -- what an index of a slice gives
 pub got : {X : Type 0} (o : Option (Bor X)) (xs : List X) (n : ℕ) → is_some o ≡ ltb n (length xs) → IfSome o (λ x. x.now ≡ get_or xs n x.now) → option_copied o ≡ slice_get xs n
@@ -45,14 +25,20 @@ got None xs n there is = elim (slice_get_cases xs n).1 [
 ]
 got (Some x) xs n there is = sym (slice_get_read xs (length xs) n x.now refl ((Decides-ltb n (length xs)).0 (sym there)) is)
 
-pub property_found : (spec : Spec) (names : Names) → AreNames spec names → (x : List ℕ) → property_named spec x ≡ option_and_then (slice_get spec.properties) (property_in names x)
-property_found spec names are x = find-position_from _ spec.properties ∙ ap (option_and_then (slice_get spec.properties)) (sym (are.properties x))
+find-map : {A B : Type 0} (t : B → Bool) (f : A → B) (xs : List A) → find t (map f xs) ≡ option_map f (find (λ x. t (f x)) xs)
+find-map t f [] = refl
+find-map t f (x ∷ xs) = by (find-map t f xs) (t (f x))
+  where
+    by : find t (map f xs) ≡ option_map f (find (λ y. t (f y)) xs) → (b : Bool) → cond b (Some (f x)) (find t (map f xs)) ≡ option_map f (cond b (Some x) (find (λ y. t (f y)) xs))
+    by rest true = refl
+    by rest false = rest
 
-pub function_found : (spec : Spec) (names : Names) → AreNames spec names → (x : List ℕ) → function_named spec x ≡ option_and_then (slice_get spec.functions) (function_in names x)
-function_found spec names are x = find-position_from _ spec.functions ∙ ap (option_and_then (slice_get spec.functions)) (sym (are.functions x))
+-- the first variable of a name, by its number
+pub variable_found : (vs : List PatternVariable) (x : List ℕ) (number : Option ℕ) → number ≡ position_from (λ v. bytes_eq x v.name.now) 0 vs
+    → find_named x vs ≡ option_map pattern_variable (option_and_then (slice_get vs) number)
+variable_found vs x number is = find-map _ pattern_variable vs ∙ ap (option_map pattern_variable) (found_at (λ v. bytes_eq x v.name.now) vs number is)
 
-pub enum_found : (spec : Spec) (names : Names) → AreNames spec names → (x : List ℕ) → enum_with spec x ≡ option_and_then (slice_get spec.enums) (enum_of_item_in names x)
-enum_found spec names are x = find-position_from _ spec.enums ∙ ap (option_and_then (slice_get spec.enums)) (sym (are.items x))
-
-pub lattice_found : (spec : Spec) (names : Names) → AreNames spec names → (x : List ℕ) → lattice_with spec x ≡ option_and_then (slice_get spec.lattices) (lattice_of_element_in names x)
-lattice_found spec names are x = find-position_from _ spec.lattices ∙ ap (option_and_then (slice_get spec.lattices)) (sym (are.elements x))
+-- what an insertion of a new name makes
+pub number_in-insert : {S : Type 0} (old new : HashMap (List ℕ) ℕ S) (eq : List ℕ → List ℕ → Bool) (key : List ℕ) (v : ℕ) → get eq old key ≡ None → new.entries ≡ insert_entry eq old.entries key v → (x : List ℕ)
+    → number_in new x ≡ or_where (number_in old x) (bytes_eq x key) v
+number_in-insert old new eq key v absent made x = ap (lookup (bytes_eq x)) (made ∙ insert_entry-new eq old key v absent) ∙ lookup-push (bytes_eq x) old.entries key v

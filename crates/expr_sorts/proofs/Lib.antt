@@ -6,6 +6,5 @@ pub mod OwnFaults
 pub mod Parts
 pub mod Patterns
 pub mod Places
-pub mod Sorts
 pub mod Scoping
 pub mod Turning

@@ -11,7 +11,7 @@ use Rattle.flow_syntax.specs.Binders.{Bound, bound_in, bound_layer, variable_of}
 use Rattle.flow_syntax.specs.Matching.{PatternLayer, pattern_layer}
 use Rattle.flow_syntax.specs.Scopes.{Variable}
 use Rattle.flow_syntax.specs.Types.{name_sort, pos_sort, str_sort, int_sort}
-use Rattle.expr_sorts.specs.Scoping.{bound_to}
+use Rattle.expr_sorts.specs.Variables.{bound_to}
 
 -- a layer with the variables of its parts
 abbrev bounds_of : PatternLayer → PatternKind-F (ℕ → List Bound) (List Bound)

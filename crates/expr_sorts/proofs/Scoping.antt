@@ -6,9 +6,10 @@ use Rattle.std.proofs.lemmas.List.Folds.{find-append}
 use Rattle.flow_syntax.specs.Scopes.{Variable, with_variable, variable_named}
 use Rattle.expr_sorts.specs.declared.scope.Scope.{Scope as ScopeValue, the_lemmas}
 use Rattle.expr_sorts.specs.declared.scope.Scope.TheVariants as scopes
-use Rattle.expr_sorts.specs.declared.scope.Variable.{Variable as VariableValue}
-use Rattle.expr_sorts.specs.Scoping.{scope_of, variable_of}
-use Rattle.expr_sorts.specs.Views.{sort_in}
+use Rattle.expr_sorts.specs.declared.variables.Variable.{Variable as VariableValue}
+use Rattle.expr_sorts.specs.Scoping.{scope_of}
+use Rattle.expr_sorts.specs.Variables.{variable_of}
+use Rattle.type_wants.specs.Views.{sort_in}
 
 pub scope_of_inner : (outer : Bor ScopeValue) (v : VariableValue) → scope_of (scopes.Inner outer v) ≡ with_variable (scope_of outer.now) v.name.now (sort_in v.sort)
 scope_of_inner outer v = grind (arith, the_lemmas)

@@ -4,4 +4,4 @@ pub mod Noted
 pub mod Own
 pub mod Plans
 pub mod Scoping
-pub mod Views
+pub mod Variables

@@ -6,21 +6,19 @@ ghost use Rattle.flow_syntax.specs.Telling.{is, operands};
 ghost use Rattle.flow_syntax.specs.Types.{element, int_sort, truth};
 ghost use Rattle.spec_names.specs.Tables.{AreNames};
 ghost use Rattle.expr_sorts.specs.Scoping.{scope_of};
-ghost use Rattle.expr_sorts.specs.Views.{shape_of, sort_in, telling_of, want_of};
+ghost use Rattle.type_wants.specs.Views.{shape_of, sort_in, telling_of, want_of};
 ghost use Rattle.expr_sorts.specs.Plans.{first_part_want, leaf_telling, second_part_want, third_part_want, tell_made, tell_one, tell_two};
 
 use crate::names::{Context, name_telling, property_telling};
 use crate::scope::Scope;
-use crate::shape::Shape;
-use crate::telling::{
-    Telling, always_told, first_of, key_sort, only, pair_telling, second_of, set_sort, value_of,
-};
-use crate::want::{
-    Want, element_want, first_want, flat_want, free, int, known_sort, left_want, like, map_want,
-    right_want, same_want, second_want, source_want, truth, updated_key_want, updated_value_want,
-};
 use flow_syntax::{CompareOp, ElemSort, ExprKind, ExprType, SetOp};
 use std::alloc::{AllocError, Global};
+use type_wants::{
+    Shape, Telling, Want, always_told, element_want, first_of, first_want, flat_want, free, int,
+    key_sort, known_sort, left_want, like, map_want, only, pair_telling, right_want, same_want,
+    second_of, second_want, set_sort, source_want, truth, updated_key_want, updated_value_want,
+    value_of,
+};
 
 /// The types that an operation of two lattice values is for.
 pub fn operands(op: SetOp) -> Shape

@@ -7,10 +7,7 @@ mod notes;
 mod own;
 mod rules;
 mod scope;
-mod shape;
-mod telling;
-mod types;
+mod variables;
 mod walk;
-mod want;
 
 pub use rules::check_expressions;

@@ -5,18 +5,17 @@ ghost use Rattle.flow_syntax.specs.Telling.{property_named, function_named, enum
 ghost use Rattle.flow_syntax.specs.Scopes.{variable_named};
 ghost use Rattle.spec_names.specs.Tables.{AreNames};
 ghost use Rattle.expr_sorts.specs.Scoping.{scope_of};
-ghost use Rattle.expr_sorts.specs.Views.{telling_of};
+ghost use Rattle.type_wants.specs.Views.{telling_of};
 ghost use Rattle.expr_sorts.specs.Naming.{is_bound};
 
 use crate::scope::{Scope, variable_named};
-use crate::telling::{Telling, told_element, told_lattice};
-use crate::types::copy_named;
 use flow_syntax::{
     ElemSort, EnumDecl, ExprType, FunctionDecl, LatticeType, PropDecl, Spec, TableDecl,
 };
 use flow_term::Text;
 use spec_names::Names;
 use std::alloc::{AllocError, Global};
+use type_wants::{Telling, copy_named, told_element, told_lattice};
 
 /// The specification, with its names.
 #[derive(Drop)]
@@ -27,7 +26,7 @@ pub struct Context<'a> {
 }
 
 /// The property of this name.
-#[tactic(auto, using(crate::proofs::Finding::property_found))]
+#[tactic(auto, using(spec_names::proofs::Finding::found_property))]
 pub fn property_named<'a>(cx: &Context<'a>, name: &Text) -> Option<&'a PropDecl>
     requires { AreNames cx.now.spec.now cx.now.names.now }
     ensures { option_copied result ≡ property_named cx.now.spec.now name.now }
@@ -37,7 +36,7 @@ pub fn property_named<'a>(cx: &Context<'a>, name: &Text) -> Option<&'a PropDecl>
 }
 
 /// The function of this name.
-#[tactic(auto, using(crate::proofs::Finding::function_found))]
+#[tactic(auto, using(spec_names::proofs::Finding::found_function))]
 pub fn function_named<'a>(cx: &Context<'a>, name: &Text) -> Option<&'a FunctionDecl>
     requires { AreNames cx.now.spec.now cx.now.names.now }
     ensures { option_copied result ≡ function_named cx.now.spec.now name.now }
@@ -47,7 +46,7 @@ pub fn function_named<'a>(cx: &Context<'a>, name: &Text) -> Option<&'a FunctionD
 }
 
 /// The enum that has this item.
-#[tactic(auto, using(crate::proofs::Finding::enum_found))]
+#[tactic(auto, using(spec_names::proofs::Finding::found_item))]
 fn enum_with<'a>(cx: &Context<'a>, name: &Text) -> Option<&'a EnumDecl>
     requires { AreNames cx.now.spec.now cx.now.names.now }
     ensures { option_copied result ≡ enum_with cx.now.spec.now name.now }
@@ -57,7 +56,7 @@ fn enum_with<'a>(cx: &Context<'a>, name: &Text) -> Option<&'a EnumDecl>
 }
 
 /// The lattice that has this element.
-#[tactic(auto, using(crate::proofs::Finding::lattice_found))]
+#[tactic(auto, using(spec_names::proofs::Finding::found_element))]
 fn lattice_with<'a>(cx: &Context<'a>, name: &Text) -> Option<&'a TableDecl>
     requires { AreNames cx.now.spec.now cx.now.names.now }
     ensures { option_copied result ≡ lattice_with cx.now.spec.now name.now }

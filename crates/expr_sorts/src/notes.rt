@@ -3,14 +3,12 @@ ghost use Rattle.std.specs.Prelude.{◌≡◌, ◌<◌, ◌≤◌, ◌∷◌, �
 ghost use Rattle.expr_types.specs.Listing.{listed_type};
 ghost use Rattle.flow_syntax.specs.Types.{truth, typing_of};
 ghost use Rattle.expr_sorts.specs.Noted.{put_behind, told_type};
-ghost use Rattle.expr_sorts.specs.Views.{telling_of, want_of};
+ghost use Rattle.type_wants.specs.Views.{telling_of, want_of};
 
-use crate::telling::Telling;
-use crate::types::copy_type;
-use crate::want::Want;
 use earliest_fault::Earliest;
 use flow_syntax::ExprType;
 use std::alloc::{AllocError, Global};
+use type_wants::{Telling, Want, copy_type};
 
 /// The earliest fault of expressions, and the type of each, an outer one before its parts.
 #[derive(Drop)]

@@ -10,17 +10,14 @@ ghost use Rattle.flow_syntax.specs.ExprFaults.{own_telling};
 ghost use Rattle.spec_names.specs.Tables.{AreNames};
 ghost use Rattle.expr_sorts.specs.Own.{OwnFaults, is_undeclared, is_miscounted, is_unbound};
 ghost use Rattle.expr_sorts.specs.Scoping.{scope_of};
-ghost use Rattle.expr_sorts.specs.Views.{shape_of, telling_of, want_of};
+ghost use Rattle.type_wants.specs.Views.{shape_of, telling_of, want_of};
 
 use crate::form::form_shape;
 use crate::names::{Context, function_named, is_bound, property_named};
 use crate::scope::{Scope, can_read};
-use crate::shape::{Shape, is_in};
-use crate::telling::Telling;
-use crate::types::is_same_type;
-use crate::want::Want;
 use earliest_fault::Earliest;
 use flow_syntax::{Expr, ExprKind, ExprType, SpecFaultKind};
+use type_wants::{Shape, Telling, Want, is_in, is_same_type};
 
 /// Whether what is told of an expression of a form with types of this group is another type than the wanted one.
 fn is_other(form: Shape, wanted: &ExprType, told: &Telling) -> bool

@@ -12,14 +12,15 @@ ghost use Rattle.spec_names.specs.Tables.{AreNames};
 ghost use Rattle.expr_types.specs.Listing.{AreListed, Lists};
 ghost use Rattle.expr_sorts.specs.Noted.{IsNoted, conditions_of, noted_types};
 ghost use Rattle.expr_sorts.specs.Own.{ConditionHas, WholeHas};
-ghost use Rattle.expr_sorts.specs.Scoping.{bound_to, pattern_variable, whole_scope};
-ghost use Rattle.expr_sorts.specs.Views.{want_of};
+ghost use Rattle.expr_sorts.specs.Scoping.{whole_scope};
+ghost use Rattle.expr_sorts.specs.Variables.{bound_to, pattern_variable};
+ghost use Rattle.type_wants.specs.Views.{want_of};
 
 use crate::names::{Context, property_named};
 use crate::notes::Notes;
-use crate::scope::{PatternVariable, Scope, Whole};
+use crate::scope::{Scope, Whole};
+use crate::variables::{PatternVariable, PatternVariables};
 use crate::walk::note;
-use crate::want::{Want, free, known_lattice, truth};
 use earliest_fault::Earliest;
 use flow_syntax::{
     ElemSort, Expr, ExprType, Message, Pattern, PatternKind, PropRule, Spec, Trigger,
@@ -28,6 +29,7 @@ use flow_term::{List, Text};
 use spec_names::Names;
 use std::alloc::{AllocError, Global};
 use std::mem;
+use type_wants::{Want, free, known_lattice, truth};
 
 /// Adds a variable of this sort.
 fn push_variable<'a>(
@@ -79,18 +81,26 @@ fn push_variables_of_each<'a>(
     Ok(())
 }
 
+/// The variables of a pattern.
+fn variables_of(alloc: Global, pattern: &Pattern) -> Result<PatternVariables<'_>, AllocError>
+    ensures { IfOk result (λ variables. map pattern_variable variables.list.items ≡ map bound_variable (bound_in pattern.now)) }
+{
+    let mut list = Vec::new(alloc);
+    push_variables(pattern, &mut list)?;
+    PatternVariables::new(alloc, list)
+}
+
 /// The scope of the whole of a rule.
 fn rule_scope(alloc: Global, trigger: &Trigger) -> Result<Whole<'_>, AllocError>
     ensures { IfOk result (λ w. whole_scope w ≡ trigger_scope trigger.now) }
 {
-    let mut variables = Vec::new(alloc);
     let (pattern, prev, next) = match trigger {
         Trigger::Forward(pattern) => (pattern, true, false),
         Trigger::Backward(pattern) => (pattern, false, true),
         Trigger::AtStart(pattern) => (pattern, false, false),
         Trigger::AtEnd(pattern) => (pattern, false, false),
     };
-    push_variables(pattern, &mut variables)?;
+    let variables = variables_of(alloc, pattern)?;
     Ok(Whole {
         variables,
         prev,
@@ -102,8 +112,7 @@ fn rule_scope(alloc: Global, trigger: &Trigger) -> Result<Whole<'_>, AllocError>
 fn message_scope(alloc: Global, message: &Message) -> Result<Whole<'_>, AllocError>
     ensures { IfOk result (λ w. whole_scope w ≡ message_scope message.now) }
 {
-    let mut variables = Vec::new(alloc);
-    push_variables(&message.pattern, &mut variables)?;
+    let variables = variables_of(alloc, &message.pattern)?;
     Ok(Whole {
         variables,
         prev: true,

@@ -2,29 +2,17 @@
 ghost use Rattle.std.specs.Prelude.{◌≡◌};
 ghost use Rattle.std.specs.Option.{option_map};
 ghost use Rattle.flow_syntax.specs.Scopes.{can_read, variable_named};
-ghost use Rattle.expr_sorts.specs.Scoping.{find_named, scope_of, variable_of};
+ghost use Rattle.expr_sorts.specs.Scoping.{scope_of};
+ghost use Rattle.expr_sorts.specs.Variables.{variable_of};
 
-use flow_syntax::{ElemSort, Side};
+use crate::variables::{PatternVariables, Variable};
+use flow_syntax::Side;
 use flow_term::Text;
-
-/// A variable. Its sort isn't known where that follows from an expression with a fault.
-#[derive(Clone, Copy)]
-pub struct Variable<'a> {
-    pub name: &'a Text,
-    pub sort: Option<&'a ElemSort>,
-}
-
-/// A variable of a pattern.
-#[derive(Drop)]
-pub struct PatternVariable<'a> {
-    pub name: &'a Text,
-    pub sort: ElemSort,
-}
 
 /// The variables of the whole of a rule or message, and whether `prev` and `next` may be read there.
 #[derive(Drop)]
 pub struct Whole<'a> {
-    pub variables: Vec<PatternVariable<'a>>,
+    pub variables: PatternVariables<'a>,
     pub prev: bool,
     pub next: bool,
 }
@@ -36,27 +24,12 @@ pub enum Scope<'a> {
     Inner(&'a Scope<'a>, Variable<'a>),
 }
 
-fn first_named<'s>(variables: &'s [PatternVariable<'s>], name: &Text) -> Option<Variable<'s>>
-    ensures { option_map variable_of result ≡ find_named name.now variables.now }
-{
-    for variable in variables {
-        if variable.name == name {
-            let sort = Some(&variable.sort);
-            return Some(Variable {
-                name: variable.name,
-                sort,
-            });
-        }
-    }
-    None
-}
-
 /// The first variable of this name, if there is one.
 pub fn variable_named<'s>(scope: &Scope<'s>, name: &Text) -> Option<Variable<'s>>
     ensures { option_map variable_of result ≡ variable_named (scope_of scope.now) name.now }
 {
     match scope {
-        Scope::Outer(whole) => first_named(whole.variables.as_slice(), name),
+        Scope::Outer(whole) => whole.variables.named(name),
         Scope::Inner(outer, variable) => match variable_named(outer, name) {
             Some(known) => Some(known),
             None => {

@@ -11,7 +11,7 @@ ghost use Rattle.expr_sorts.specs.Checked.{HasCheckedParts, IsBind, IsChecked, I
 ghost use Rattle.expr_sorts.specs.Noted.{AreNoted, IsNoted, IsNotedBefore, noted_types};
 ghost use Rattle.expr_sorts.specs.Plans.{argument_want, first_part_want, outside, second_part_want, third_part_want};
 ghost use Rattle.expr_sorts.specs.Scoping.{scope_of};
-ghost use Rattle.expr_sorts.specs.Views.{sort_in, telling_of, want_of};
+ghost use Rattle.type_wants.specs.Views.{sort_in, telling_of, want_of};
 
 use crate::form::{
     first_part_want, second_part_want, tell_leaf, tell_one, tell_two, third_part_want,
@@ -19,13 +19,14 @@ use crate::form::{
 use crate::names::{Context, function_named, result_telling};
 use crate::notes::{Notes, count, hold_place, listed_type, put_behind, set_type};
 use crate::own::{is_well_named, note_own};
-use crate::scope::{Scope, Variable};
-use crate::telling::{Telling, flat_sort, set_sort};
-use crate::types::copy_named;
-use crate::want::{Want, element_want, free, key_want, value_want};
+use crate::scope::Scope;
+use crate::variables::Variable;
 use flow_syntax::{ElemSort, Expr, ExprKind, ExprType, LatticeType, Named};
 use flow_term::{Boxed, Text};
 use std::alloc::{AllocError, Global};
+use type_wants::{
+    Telling, Want, copy_named, element_want, flat_sort, free, key_want, set_sort, value_want,
+};
 
 /// What those that need the type of an expression are told, where its form tells this.
 fn outside(cx: &Context<'_>, scope: &Scope<'_>, kind: &ExprKind, told: Telling) -> Telling
@@ -293,11 +294,11 @@ fn note_choose(
     ensures { OnOk result (HasCheckedParts cx.now.spec.now (place (scope_of scope.now) (want_of want.now) expr.now) notes.old notes.new untold) }
 {
     let kind = &expr.kind;
-    let ExprKind::Choose(element, name, set, condition) = kind else {
+    let ExprKind::Choose(element, name, from, condition) = kind else {
         unreachable!()
     };
     let start = count(&notes.types);
-    let told = check_first(set.get(), cx, scope, kind, want, notes)?;
+    let told = check_first(from.get(), cx, scope, kind, want, notes)?;
     let inner = inner_scope(&*scope, name, set_sort(&told));
     note_before(element.get(), cx, &inner, kind, want, &told, start, notes)?;
     note_condition(condition, cx, &inner, kind, want, &told, notes)

@@ -1,7 +1,7 @@
 use Rattle.std.proofs.Common.{◌≡◌, subst}
 use Rattle.std.specs.Prelude.{IfOk}
 use Rattle.flow_syntax.specs.Telling.{Telling}
-use Rattle.expr_sorts.specs.Views.{telling_of}
+use Rattle.type_wants.specs.Views.{telling_of}
 use Rattle.expr_sorts.proofs.Forms.{made_alone}
 use Rattle.expr_sorts.proofs.form.tell_two.Goals as goal
 

@@ -1,6 +1,6 @@
 use Rattle.flow_syntax.specs.ExprPlaces.{place}
 use Rattle.expr_sorts.specs.Scoping.{scope_of}
-use Rattle.expr_sorts.specs.Views.{want_of}
+use Rattle.type_wants.specs.Views.{want_of}
 use Rattle.expr_sorts.proofs.OwnFaults.{own_gathered, misfit_at}
 use Rattle.expr_sorts.proofs.own.note_own.Goals as goal
 

@@ -1,6 +1,6 @@
 use Rattle.std.proofs.Common.{◌++◌, ap, sym, ◌∙◌, map}
 use Rattle.std.proofs.lemmas.Result.{IfOk-equal}
-use Rattle.expr_sorts.specs.Scoping.{pattern_variable}
+use Rattle.expr_sorts.specs.Variables.{pattern_variable}
 use Rattle.expr_sorts.proofs.Patterns.{variables_in, variables_of_parts}
 use Rattle.expr_sorts.proofs.rules.+variables.Goals as goal
 

@@ -1,7 +1,7 @@
 use Rattle.std.proofs.Common.{◌∙◌, sym, ap, cond, Option, None, Some, bytes_eq}
 use Rattle.std.specs.Option.{option_or}
 use Rattle.flow_syntax.specs.Scopes.{Variable}
-use Rattle.expr_sorts.specs.Scoping.{variable_of}
+use Rattle.expr_sorts.specs.Variables.{variable_of}
 use Rattle.expr_sorts.proofs.Scoping.{named_inner}
 use Rattle.expr_sorts.proofs.scope.+variable_named.Goals as goal
 

@@ -4,7 +4,7 @@ use Rattle.flow_syntax.specs.declared.expr.ExprKind.TheVariants as exprs
 use Rattle.flow_syntax.specs.Scopes.{with_variable}
 use Rattle.expr_sorts.specs.Plans.{argument_want}
 use Rattle.expr_sorts.specs.Scoping.{scope_of}
-use Rattle.expr_sorts.specs.Views.{telling_of, want_of}
+use Rattle.type_wants.specs.Views.{telling_of, want_of}
 use Rattle.expr_sorts.proofs.Arguments.{arguments_next, each_next}
 use Rattle.expr_sorts.proofs.Finding.{got}
 use Rattle.expr_sorts.proofs.Forms.{checked_bind, checked_choose, checked_leaf, checked_map_of, checked_member, checked_three, checked_two, leaf_name, leaf_value, none_there, one_there, three_of, two_of}
@@ -25,7 +25,7 @@ note_bind-returns t c =
 
 pub note_choose-returns : goal.note_choose-returns
 note_choose-returns t c =
-    let is = c.in-Choose.is ∙ ap (λ a. exprs.Choose a c.in-Choose.name c.in-Choose.set c.in-Choose.condition) (sym c.get-2.ensures) ∙ ap (λ a. exprs.Choose c.get-2.result.now c.in-Choose.name a c.in-Choose.condition) (sym c.get.ensures) in
+    let is = c.in-Choose.is ∙ ap (λ a. exprs.Choose a c.in-Choose.name c.in-Choose.from c.in-Choose.condition) (sym c.get-2.ensures) ∙ ap (λ a. exprs.Choose c.get-2.result.now c.in-Choose.name a c.in-Choose.condition) (sym c.get.ensures) in
     on_ok_weaker c.note_condition.result
     (checked_choose c.args.cx.now.spec.now (scope_of c.args.scope.now) (want_of c.args.want.now) c.args.expr.now _ c.in-Choose.name _ c.in-Choose.condition _ _ is c.count-start.ensures c.in_ok-told.ensures
     (c.inner_scope-inner.ensures ∙ ap (with_variable (scope_of c.args.scope.now) c.in-Choose.name) c.set_sort.ensures) c.in_ok-note_before.ensures) c.note_condition.ensures

@@ -2,7 +2,7 @@ use Rattle.std.proofs.Common.{take, map}
 use Rattle.flow_syntax.specs.ExprPlaces.{arguments, place}
 use Rattle.expr_sorts.specs.Noted.{AreNoted}
 use Rattle.expr_sorts.specs.Scoping.{scope_of}
-use Rattle.expr_sorts.specs.Views.{want_of}
+use Rattle.type_wants.specs.Views.{want_of}
 use Rattle.expr_sorts.proofs.walk.+check.Given as goal
 
 abbrev pub invariant-note_each-loop-expr : goal.invariant-note_each-loop-expr

@@ -3,7 +3,7 @@ ghost use Rattle.std.specs.Prelude.{◌≡◌, IfOk};
 ghost use Rattle.flow_syntax.specs.Types.{typing_of, sort_of, lattice_of, element, lattice};
 ghost use Rattle.flow_syntax.specs.Wants.{known, free, known_sort, element_want, source_want, flat_want, key_want, value_want, part_want, first_want, second_want, same_want, left_want, map_want, like, right_want, updated_key_want, updated_value_want};
 ghost use Rattle.flow_syntax.specs.ExprPlaces.{truth_want, int_want};
-ghost use Rattle.expr_sorts.specs.Views.{shape_of, sort_in, telling_of, want_of};
+ghost use Rattle.type_wants.specs.Views.{shape_of, sort_in, telling_of, want_of};
 
 use crate::shape::{Shape, is_in};
 use crate::telling::{Telling, key_sort, value_of};

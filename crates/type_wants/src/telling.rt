@@ -2,7 +2,7 @@
 ghost use Rattle.std.specs.Prelude.{◌≡◌, IfOk};
 ghost use Rattle.flow_syntax.specs.Types.{sort_of, lattice_of, element, lattice};
 ghost use Rattle.flow_syntax.specs.Telling.{is, first_of, second_of, value_of, set_sort, flat_sort, key_sort, pair_telling, only, always_told};
-ghost use Rattle.expr_sorts.specs.Views.{shape_of, sort_in, telling_of};
+ghost use Rattle.type_wants.specs.Views.{shape_of, sort_in, telling_of};
 
 use crate::shape::{Shape, is_in};
 use crate::types::{copy_lattice, copy_sort, copy_type};

@@ -2,12 +2,12 @@
 use Rattle.std.specs.Prelude.{Option, None, Some}
 use Rattle.std.specs.Borrow.{Bor}
 use Rattle.flow_syntax.specs.declared.types.ElemSort.{ElemSort}
-use Rattle.expr_sorts.specs.declared.shape.Shape.{Shape as ShapeValue}
-use Rattle.expr_sorts.specs.declared.shape.Shape.TheVariants as shapes
-use Rattle.expr_sorts.specs.declared.telling.Telling.{Telling as TellingValue}
-use Rattle.expr_sorts.specs.declared.telling.Telling.TheVariants as tellings
-use Rattle.expr_sorts.specs.declared.want.Want.{Want as WantValue}
-use Rattle.expr_sorts.specs.declared.want.Want.TheVariants as wants
+use Rattle.type_wants.specs.declared.shape.Shape.{Shape as ShapeValue}
+use Rattle.type_wants.specs.declared.shape.Shape.TheVariants as shapes
+use Rattle.type_wants.specs.declared.telling.Telling.{Telling as TellingValue}
+use Rattle.type_wants.specs.declared.telling.Telling.TheVariants as tellings
+use Rattle.type_wants.specs.declared.want.Want.{Want as WantValue}
+use Rattle.type_wants.specs.declared.want.Want.TheVariants as wants
 use Rattle.flow_syntax.specs.Types.{Sort, sort_of, typing_of, Shape, anything, any_element, any_lattice, any_set, any_may, any_must, any_flat, any_map, any_pair}
 use Rattle.flow_syntax.specs.Telling.{Telling, is, untold, hidden}
 use Rattle.flow_syntax.specs.Wants.{Want, known, told_in, own_choice, if_told_in}

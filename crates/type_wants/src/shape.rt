@@ -1,7 +1,7 @@
 //! Groups of types.
 ghost use Rattle.std.specs.Prelude.{◌≡◌};
 ghost use Rattle.flow_syntax.specs.Types.{typing_of, lattice_of, sort_of, has_shape, lattice_has as lattice_has_shape, sort_has as sort_has_shape};
-ghost use Rattle.expr_sorts.specs.Views.{shape_of};
+ghost use Rattle.type_wants.specs.Views.{shape_of};
 
 use flow_syntax::{ElemSort, ExprType, LatticeType};
 
