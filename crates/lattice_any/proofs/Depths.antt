@@ -21,12 +21,3 @@ left_falls l left right t e is = omega (arith, is, ap size-AnyL e, left_deeper l
 
 pub right_falls : (l left right : AnyL) (t : ℕ) → l ≡ any.Pair left right → 3 * size-AnyL l ≡ t → 3 * size-AnyL right < t
 right_falls l left right t e is = omega (arith, is, ap size-AnyL e, right_deeper left right)
-
-pub order_map_falls : (l : AnyL) (sort : ElemSort) (values : AnyL) (t : ℕ) → l ≡ any.Map sort values → 2 * size-AnyL l ≡ t → 2 * size-AnyL values + 1 < t
-order_map_falls l sort values t e is = omega (arith, is, ap size-AnyL e, map_deeper sort values)
-
-pub order_left_falls : (l left right : AnyL) (t : ℕ) → l ≡ any.Pair left right → 2 * size-AnyL l ≡ t → 2 * size-AnyL left < t
-order_left_falls l left right t e is = omega (arith, is, ap size-AnyL e, left_deeper left right)
-
-pub order_right_falls : (l left right : AnyL) (t : ℕ) → l ≡ any.Pair left right → 2 * size-AnyL l ≡ t → 2 * size-AnyL right < t
-order_right_falls l left right t e is = omega (arith, is, ap size-AnyL e, right_deeper left right)

@@ -4,4 +4,5 @@ pub mod Elems
 pub mod FlatJoins
 pub mod Members
 pub mod Orders
+pub mod SameValues
 pub mod Steps

@@ -8,15 +8,14 @@ use Rattle.flow_term.specs.declared.value.Value.TheVariants as value
 use Rattle.flow_term.specs.declared.value.Entry.{Entry}
 use Rattle.flow_term.specs.Elements.{elem_cmp}
 use Rattle.flow_syntax.specs.declared.types.ElemSort.{ElemSort}
-use Rattle.lattice_sets.specs.SetLaws.{same_tied, ties_itself}
 use Rattle.lattice_any.specs.declared.any.AnyL.{AnyL}
 use Rattle.lattice_any.specs.declared.any.AnyL.TheVariants as any
-use Rattle.lattice_any.specs.Elements.{elem_total, elem_exact}
 use Rattle.lattice_any.specs.LatticeLaws.{map_opened, map_whole, pair_whole}
 use Rattle.flow_syntax.specs.Types.{Lattice, may, must, flat, map_to, pair_of, sort_of}
 use Rattle.flow_syntax.specs.Lattices.{IsBelowIn, Valid, join_of, map_join, Includes, IsBelowMust, IsBelowFlat, elems_in, entries_in, map_in, left_in, right_in, pairs_of, entries_of}
 use Rattle.lattice_any.specs.TypeLaws.{any_laws, any_order}
 use Rattle.lattice_any.specs.Types.{type_of}
+use Rattle.lattice_any.proofs.SameValues.{elem_told}
 use Rattle.lattice_any.proofs.AtTypes.{lattice, is_may, is_must, is_flat, is_map, is_pair, valid_at, join_at}
 
 -- -- at two layers
@@ -24,8 +23,7 @@ use Rattle.lattice_any.proofs.AtTypes.{lattice, is_may, is_must, is_flat, is_map
 pub below_flats : (a b : Value) (x y : Elem) (r : Bool) → a ≡ value.Flat x → b ≡ value.Flat y → r ≡ eq_by_cmp elem_cmp x y → (r ≡ true) ↔ IsBelowFlat (out-Value a) (out-Value b)
 below_flats a b x y r e f is =
     subst (λ l. (r ≡ true) ↔ IsBelowFlat l (out-Value b)) (sym (ap out-Value e ∙ value.outs-Flat x))
-    (subst (λ l. (r ≡ true) ↔ IsBelowFlat (Value-F.Flat x) l) (sym (ap out-Value f ∙ value.outs-Flat y))
-    (λ h. same_tied elem_cmp elem_total elem_exact x y (sym is ∙ h), λ h. is ∙ ap (λ z. eq_by_cmp elem_cmp z y) h ∙ ties_itself elem_cmp elem_total elem_exact y))
+    (subst (λ l. (r ≡ true) ↔ IsBelowFlat (Value-F.Flat x) l) (sym (ap out-Value f ∙ value.outs-Flat y)) (elem_told x y r is))
 
 pub below_sets : (a b : Value) (xs ys us vs : List Elem) (r : Bool) → a ≡ value.Set xs → b ≡ value.Set ys → us ≡ xs → vs ≡ ys → (r ≡ true) ↔ Includes us vs → (r ≡ true) ↔ IsBelowMust (out-Value a) (out-Value b)
 below_sets a b xs ys us vs r e f g h is =
@@ -36,13 +34,6 @@ below_sets a b xs ys us vs r e f g h is =
 -- -- at a lattice
 
 module _ (l : AnyL) (a b : Value) (left : Valid (type_of l) a) (right : Valid (type_of l) b) where
-  pub same_by_join : ((join_of (type_of l) a b ≡ b) × (join_of (type_of l) b a ≡ a)) ↔ (a ≡ b)
-  same_by_join =
-      let laws = any_laws l in (
-        λ h. sym h.1 ∙ laws.commutative b a right left ∙ h.0,
-        λ e. (ap (λ v. join_of (type_of l) v b) e ∙ laws.idempotent b right, ap (λ v. join_of (type_of l) v a) (sym e) ∙ laws.idempotent a left),
-      )
-
   by_join : (k : Lattice) (r : Bool) → lattice l ≡ k → (r ≡ true) ↔ IsBelowIn k a b → (r ≡ true) ↔ (join_of (type_of l) a b ≡ b)
   by_join k r e is =
       let order = any_order l a b left right in

@@ -7,6 +7,7 @@ use crate::copy::{build_lattice, copy_lattice};
 use crate::join::{join_values, least_value};
 use crate::member::is_value;
 use crate::order::is_below;
+use crate::same::is_same_value;
 use crate::tables::Tables;
 use flow_syntax::{ElemSort, LatticeType};
 use flow_term::{Boxed, Value};
@@ -81,7 +82,7 @@ impl Lattice for AnyL {
     }
 
     fn equal(&self, a: &Value, b: &Value) -> bool {
-        is_below(self, a, b) && is_below(self, b, a)
+        is_same_value(a, b)
     }
 
     fn copy(&self, alloc: Global, a: &Value) -> Result<Value, AllocError> {

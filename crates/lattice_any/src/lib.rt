@@ -8,6 +8,7 @@ mod laws;
 mod member;
 mod order;
 mod parts;
+mod same;
 mod tables;
 
 pub use any::AnyL;

@@ -1,5 +1,7 @@
 //! Joins and orders of small values of each kind of type, by their texts; the lattice used through its bound, and each call once.
-use crate::{AnyL, Tables, read_value};
+use crate::{
+    AnyL, Tables, map_joins_are_pointwise, read_value, set_joins_are_unions_and_intersections,
+};
 use flow_syntax::{ElemSort, LatticeType, Named};
 use flow_term::{Boxed, Text, Value};
 use lattice_base::Lattice;
@@ -41,6 +43,7 @@ fn join_is(
     if !lattice.contains(a) || !lattice.contains(b) || !lattice.contains(want) {
         return Ok(false);
     }
+    map_joins_are_pointwise(&lattice);
     joins_to(&lattice, alloc, a, b, want)
 }
 
@@ -75,6 +78,10 @@ enum Kind {
     Map,
     /// `Pair(MaySet(name), Flat(int))`
     Pair,
+    /// `MaySet((name, int))`
+    MayPairs,
+    /// `MaySet(color)`, where `color` is an enum
+    MayItems,
 }
 
 fn map_type(alloc: Global) -> Result<LatticeType, AllocError> {
@@ -88,6 +95,17 @@ fn pair_type(alloc: Global) -> Result<LatticeType, AllocError> {
     Ok(LatticeType::Pair(left, right))
 }
 
+fn pairs_type(alloc: Global) -> Result<LatticeType, AllocError> {
+    let first = Boxed::new(alloc, ElemSort::Name)?;
+    let second = Boxed::new(alloc, ElemSort::Int)?;
+    Ok(LatticeType::May(ElemSort::Pair(first, second)))
+}
+
+fn items_type(alloc: Global) -> Result<LatticeType, AllocError> {
+    let text = Text::from_string(String::from_str(alloc, "color")?);
+    Ok(LatticeType::May(ElemSort::Enum(Named { text, place: 0 })))
+}
+
 fn type_of(alloc: Global, kind: Kind) -> Result<LatticeType, AllocError> {
     match kind {
         Kind::May => Ok(LatticeType::May(ElemSort::Name)),
@@ -95,6 +113,8 @@ fn type_of(alloc: Global, kind: Kind) -> Result<LatticeType, AllocError> {
         Kind::Flat => Ok(LatticeType::Flat(ElemSort::Int)),
         Kind::Map => map_type(alloc),
         Kind::Pair => pair_type(alloc),
+        Kind::MayPairs => pairs_type(alloc),
+        Kind::MayItems => items_type(alloc),
     }
 }
 
@@ -116,6 +136,7 @@ fn has(alloc: Global, kind: Kind, text: &str) -> Result<bool, AllocError> {
 
 #[test]
 fn values_join_by_their_type(rt: HostRuntime) -> Result<(), Fail> {
+    set_joins_are_unions_and_intersections();
     let a_three = "[\"a\" |-> top, \"b\" |-> flat(3)]";
     let rows = [
         (
@@ -154,6 +175,11 @@ fn values_keep_to_their_type(rt: HostRuntime) -> Result<(), Fail> {
         (Kind::May, "unreached", false),
         (Kind::Map, "[\"a\" |-> top]", true),
         (Kind::Map, "[\"a\" |-> bottom]", false),
+        (Kind::MayPairs, "{(\"a\", 1)}", true),
+        (Kind::MayPairs, "{(1, \"a\")}", false),
+        (Kind::MayPairs, "{\"a\"}", false),
+        (Kind::MayItems, "{red}", true),
+        (Kind::MayItems, "{'red'}", false),
     ];
     for (kind, text, want) in rows {
         assert_eq!(rt; has(rt.alloc(), kind, text)?, want, "{text}");

@@ -1,6 +1,6 @@
 -- The texts that are one token: positions, integers and identifiers.
-use Rattle.std.proofs.Common.{◌≡◌, ℕ, suc, ◌<◌, ◌^◌, true, false, ◌||◌, List, [], ◌∷◌, ◌++◌, length, Some, refl, sym, subst, ◌∙◌, arith, inl, inr}
-use Rattle.std.specs.Prelude.{ℤ, pos, negsuc, ◌==◌, Contains, bytes_eq, decimal}
+use Rattle.std.proofs.Common.{◌≡◌, ℕ, suc, ◌<◌, ◌^◌, true, false, ◌||◌, List, [], ◌∷◌, ◌++◌, length, Some, None, refl, sym, ap, subst, ◌∙◌, arith, inl, inr}
+use Rattle.std.specs.Prelude.{ℤ, pos, negsuc, ◌==◌, if◌then◌else◌, Contains, bytes_eq, decimal}
 use Rattle.std.specs.Char.{is_ascii_alphabetic, is_ascii_digit}
 use Rattle.std.specs.Fmt.{signed_decimal}
 use Rattle.std.specs.Int.Signed.{mag}
@@ -18,9 +18,11 @@ use Rattle.flow_term.specs.Paths.{AreSteps, path_text, step_text}
 use Rattle.flow_syntax.specs.Accepted.{IsIdentifier}
 use Rattle.flow_syntax.specs.Tokens.{is_name_byte, reserved_words}
 use Rattle.value_text.specs.Integers.{IsI64}
-use Rattle.value_text.specs.Reading.{begins_integer, begins_with, integer_of, is_token_byte, plain_elem, token_elem}
-use Rattle.value_text.proofs.Numbers.{own, both, fits_i64, number_back}
-use Rattle.value_text.proofs.Paths.{path_read}
+use Rattle.value_text.specs.Reading.{begins_integer, begins_with, decimal_of, integer_of, is_token_byte, item_of, number_in, plain_elem, token_elem}
+use Rattle.value_text.proofs.Told.{bound, one_is, passed}
+use Rattle.value_text.proofs.Identifiers.{item_read_of}
+use Rattle.value_text.proofs.Numbers.{own, both, fits_i64, number_back, number_small}
+use Rattle.value_text.proofs.Paths.{path_read, same_test}
 use Rattle.value_text.proofs.Tokens.{EndsToken, IsToken, is_a_text, token_read, token_utf8}
 
 -- ** positions
@@ -83,10 +85,24 @@ integer_read z h =
     let utf8 : is_utf8 (signed_decimal z) ≡ true = is_utf8-from_IsUtf8 (signed_decimal z) (token_utf8 (signed_decimal z) (integer_token z h)) in
     rw utf8 (number_back z (fits_i64 z h) (small_magnitude z h))
 
+decimal_read : (z : ℤ) → IsI64 z → decimal_of (signed_decimal z) ≡ Some z
+unfolding decimal_of
+decimal_read z h = rw (integer_read z h, same_test (signed_decimal z)) refl
+
+-- and nothing else
+pub decimal_is : (bs : List ℕ) (z : ℤ) → decimal_of bs ≡ Some z → IsI64 z × (signed_decimal z ≡ bs)
+unfolding decimal_of integer_of
+decimal_is bs z e =
+    let p = bound (if is_utf8 bs then number_in bs else None) (λ (y : ℤ). if bytes_eq (signed_decimal y) bs then Some y else None) z e in
+    let q = passed (bytes_eq (signed_decimal p.0) bs) (Some p.0) z p.2 in
+    let is = one_is p.0 z q.1 in
+    let n = passed (is_utf8 bs) (number_in bs) p.0 p.1 in
+    (subst IsI64 is (number_small bs p.0 n.1), ap signed_decimal (sym is) ∙ (bytes_eq-Decides (signed_decimal p.0) bs).0 q.0)
+
 int_elem : (z : ℤ) → IsI64 z → token_elem (signed_decimal z) ≡ Some (elem.Int z)
 int_elem z h =
     let begins = integer_begins z h in
-    rw (begins.0, begins.1, integer_read z h) refl
+    rw (begins.0, begins.1, decimal_read z h) refl
 
 -- ** identifiers
 
@@ -106,6 +122,9 @@ pub identifier_token : (text : List ℕ) → IsIdentifier text → IsToken text
 identifier_token [] h = absurd h.0
 identifier_token (c ∷ cs) h = record { bytes = both (is_token_byte c) (list_all is_token_byte cs) (letter_token c h.0.0) (names_token cs h.0.1); some = omega arith }
 
+pub identifier_read : (text : List ℕ) → IsIdentifier text → item_of text ≡ Some text
+identifier_read text h = item_read_of text (is_a_text text (token_utf8 text (identifier_token text h))) h
+
 letter_begins : (c : ℕ) → is_ascii_alphabetic c ≡ true → ((c == 47) ≡ false) × ((c == 45 || is_ascii_digit c) ≡ false)
 letter_begins c h = (grind (arith, nat_tests), grind (arith, nat_tests))
 
@@ -113,8 +132,7 @@ item_elem : (text : List ℕ) → IsIdentifier text → token_elem text ≡ Some
 item_elem [] h = absurd h.0
 item_elem (c ∷ cs) h =
     let begins = letter_begins c h.0.0 in
-    let found = is_a_text (c ∷ cs) (token_utf8 (c ∷ cs) (identifier_token (c ∷ cs) h)) in
-    rw (begins.0, begins.1, found) refl
+    rw (begins.0, begins.1, identifier_read (c ∷ cs) h) refl
 
 -- no reserved word is one
 pub not_reserved : (text word : List ℕ) → IsIdentifier text → Contains reserved_words word → bytes_eq text word ≡ false

@@ -1,10 +1,12 @@
 pub mod ElemTexts
 pub mod Forms
+pub mod Identifiers
 pub mod Leaves
 pub mod Lists
 pub mod Numbers
 pub mod Paths
 pub mod Quotes
+pub mod Told
 pub mod Tokens
 pub mod Turns
 pub mod ValueTexts

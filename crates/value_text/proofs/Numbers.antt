@@ -15,6 +15,7 @@ use Rattle.std.proofs.lemmas.Result.{OkIff-at_ok, OkIff-at_err}
 use Rattle.std.proofs.lemmas.Str.Parse.{IsNumeralModel, numerals_by_value, tells_all_ascii_digits}
 use mir.Val.{to_z, of_z}
 use Rattle.value_text.specs.Integers.{IsI64}
+use Rattle.value_text.proofs.Told.{one_is, passed}
 use Rattle.value_text.specs.Reading.{is_i64, is_numeral, number_in}
 
 pub own : IsNumeralModel (λ ds. all_ascii_digits ds ≡ true) (digits_value 10)
@@ -66,6 +67,16 @@ number_none bs r d h e = elim (cases_Bool (test bs)) [
   | inl holds ↦ absurd (OkIff-at_err r (Parses bs) (signed_digits_value 10 bs) d h e (from_test bs holds))
   | inr fails ↦ rw fails refl
 ]
+
+is_small : (z : ℤ) → is_i64 z ≡ true → IsI64 z
+is_small (pos n) h = let small : n < 2 ^ 63 = grind (arith, nat_tests, h) in small
+is_small (negsuc n) h = let small : n < 2 ^ 63 = grind (arith, nat_tests, h) in small
+
+pub number_small : (bs : List ℕ) (z : ℤ) → number_in bs ≡ Some z → IsI64 z
+number_small bs z e =
+    let p = passed (test bs) (Some (signed_digits_value 10 bs)) z e in
+    let q = and_parts (is_numeral (without_leading_sign bs)) (is_i64 (signed_digits_value 10 bs)) p.0 in
+    subst IsI64 (one_is (signed_digits_value 10 bs) z p.1) (is_small (signed_digits_value 10 bs) q.1)
 
 -- an integer's text is read as it
 abbrev answer : Bool → ℤ → Result ℤ Bool

@@ -1,5 +1,5 @@
 -- Reading paths.
-use Rattle.std.proofs.Common.{◌≡◌, ℕ, suc, ◌+◌, ◌*◌, ◌<◌, ◌^◌, true, false, ◌&&◌, List, [], ◌∷◌, ◌++◌, length, get_or, drop, Some, None, refl, ap, ◌∙◌, arith, inl, inr}
+use Rattle.std.proofs.Common.{◌≡◌, ℕ, suc, ◌+◌, ◌*◌, ◌<◌, ◌^◌, true, false, ◌&&◌, List, [], ◌∷◌, ◌++◌, length, get_or, drop, Some, None, refl, sym, ap, ◌∙◌, subst, arith, inl, inr}
 use Rattle.std.specs.Prelude.{Err, ◌==◌, nat_lt, bytes_eq, decimal}
 use Rattle.std.specs.Char.{digit_value, is_ascii_digit}
 use Rattle.std.specs.List.{flat_map, list_all}
@@ -14,6 +14,7 @@ use Rattle.flow_term.specs.declared.path_text.PathRefusal.TheVariants as paths
 use Rattle.flow_term.specs.Paths.{AreSteps, IsReadAs, path_text, step_text}
 use Rattle.value_text.specs.declared.refusal.ValueRefusal.{ValueRefusal}
 use Rattle.value_text.specs.Reading.{GivesNone, IsOfPath, path_if, path_of, steps_after, steps_behind}
+use Rattle.value_text.proofs.Told.{one_is, passed}
 use Rattle.value_text.proofs.Numbers.{own, both}
 
 no_slash : (d : ℕ) → is_ascii_digit d ≡ true → (d == 47) ≡ false
@@ -58,7 +59,7 @@ test_small (n ∷ path) h =
     let small : n < 2 ^ 32 = grind (arith, nat_tests, parts.0) in
     (small, test_small path parts.1)
 
-same_test : (xs : List ℕ) → bytes_eq xs xs ≡ true
+pub same_test : (xs : List ℕ) → bytes_eq xs xs ≡ true
 same_test xs = elim (cases_Bool (bytes_eq xs xs)) [ inl h ↦ h | inr h ↦ absurd (both_ways (bytes_eq xs xs) h ((bytes_eq-Decides xs xs).1 refl)) ]
 
 -- a path's text is read as it
@@ -72,6 +73,15 @@ no_path_if bs path none = elim (cases_Bool (bytes_eq (path_text path) bs && list
       absurd (none (test_small path parts.1) ((bytes_eq-Decides (path_text path) bs).0 parts.0)))
   | inr fails ↦ rw fails refl
 ]
+
+pub path_is : (bs path : List ℕ) → path_of bs ≡ Some path → AreSteps path × (path_text path ≡ bs)
+unfolding path_of
+path_is bs path e =
+    let steps = steps_behind (drop 1 bs) in
+    let p = passed (bytes_eq (path_text steps) bs && list_all (λ n. nat_lt n (2 ^ 32)) steps) (Some steps) path e in
+    let q = and_parts (bytes_eq (path_text steps) bs) (list_all (λ n. nat_lt n (2 ^ 32)) steps) p.0 in
+    let is = one_is steps path p.1 in
+    (subst AreSteps is (test_small steps q.1), ap path_text (sym is) ∙ (bytes_eq-Decides (path_text steps) bs).0 q.0)
 
 -- a refusal is one
 pub no_path : (p : PathRefusal) (e : ValueRefusal) (bs : List ℕ) → IsOfPath p e → ((path : List ℕ) → AreSteps path → path_text path ≡ bs → IsReadAs (Err p) path) → GivesNone e (path_of bs)

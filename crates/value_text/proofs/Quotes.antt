@@ -1,20 +1,21 @@
 -- Reading what stands between quotes.
-use Rattle.std.proofs.Common.{◌≡◌, ℕ, ◌+◌, ◌-◌, ◌*◌, ◌<◌, ◌≤◌, Bool, true, false, ◌&&◌, ◌||◌, List, [], ◌∷◌, ◌++◌, length, Some, refl, sym, ap, subst, ◌∙◌, arith, append_assoc, length-append}
+use Rattle.std.proofs.Common.{◌≡◌, ℕ, zero, suc, ◌+◌, ◌-◌, ◌*◌, ◌<◌, ◌≤◌, Bool, true, false, ◌&&◌, ◌||◌, List, [], ◌∷◌, ◌++◌, length, Some, refl, sym, ap, subst, ◌∙◌, arith, append_assoc, length-append, inl, inr}
 use Rattle.std.specs.Prelude.{◌==◌, ◌/◌, ◌%◌, nat_lt, nat_le, if◌then◌else◌, IsUtf8}
 use Rattle.std.specs.Char.{is_ascii_digit}
 use Rattle.std.specs.List.{flat_map}
 use Rattle.std.proofs.lemmas.Bool.Decides.{nat_tests}
 use Rattle.flow_syntax.specs.Lexing.{octal_value}
 use Rattle.value_text.specs.Texts.{byte_text}
-use Rattle.value_text.specs.Reading.{Reading, ◌>>=◌, all_until, begins_with, escape_of, part_of, quoted_of}
-use Rattle.value_text.proofs.Tokens.{is_a_text}
-use Rattle.value_text.proofs.Turns.{end, turn}
+use Rattle.value_text.specs.Reading.{Reading, ◌>>=◌, all_until, begins_with, behind, escape_of, part_of, quoted_of, spelled, text_of, until}
+use Rattle.value_text.proofs.Told.{both_are, bound}
+use Rattle.value_text.proofs.Tokens.{behind_is, behind_read, is_a_text, is_first, text_is}
+use Rattle.value_text.proofs.Turns.{end, no_turns, turn, turned}
 
 -- A text stands for a byte between quotes of this kind.
 record StandsFor (quote c : ℕ) (text : List ℕ) : Type 0 where
   some : 0 < length text
   opens : (rest : List ℕ) → begins_with quote (text ++ rest) ≡ false
-  read : (rest : List ℕ) → part_of (text ++ rest) ≡ Some (c, rest)
+  read : (rest : List ℕ) → spelled (text ++ rest) ≡ Some (c, rest)
 
 chosen_text : (quote c : ℕ) (t : Bool) (x y : List ℕ) → (t ≡ true → StandsFor quote c x) → (t ≡ false → StandsFor quote c y) → StandsFor quote c (if t then x else y)
 chosen_text quote c true x y f g = f refl
@@ -73,16 +74,19 @@ module _ (quote : ℕ) (q : IsQuote quote) where
       (λ e. record { some = omega arith; opens = λ rest. q.no_backslash; read = λ rest. escape_read c rest (control c e) })
       (λ _. record { some = omega arith; opens = λ rest. other; read = λ rest. rw plain refl }))))))
 
-  parts_read : (text rest : List ℕ) → all_until quote part_of (flat_map (byte_text quote) text ++ quote ∷ rest) ≡ Some (text, rest)
-  parts_read [] rest = end quote part_of (quote ∷ rest) q.itself
+  byte_read : (c : ℕ) (rest : List ℕ) → part_of quote (byte_text quote c ++ rest) ≡ Some (c, rest)
+  byte_read c rest = let first = (byte_stands c).read rest in rw (first, behind_read (byte_text quote c) rest) refl
+
+  parts_read : (text rest : List ℕ) → all_until quote (part_of quote) (flat_map (byte_text quote) text ++ quote ∷ rest) ≡ Some (text, rest)
+  parts_read [] rest = end quote (part_of quote) (quote ∷ rest) q.itself
   parts_read (c ∷ text) rest =
       let first = byte_stands c in
       let after : List ℕ = flat_map (byte_text quote) text ++ quote ∷ rest in
       let whole : (byte_text quote c ++ flat_map (byte_text quote) text) ++ quote ∷ rest ≡ byte_text quote c ++ after = append_assoc (byte_text quote c) (flat_map (byte_text quote) text) (quote ∷ rest) in
       let less : length after < length (byte_text quote c ++ after) = omega (arith, first.some, length-append (byte_text quote c) after) in
-      let one = turn quote part_of (byte_text quote c ++ after) after c (first.opens after) (first.read after) less in
-      let more : all_until quote part_of after ≡ Some (text, rest) = parts_read text rest in
-      ap (all_until quote part_of) whole ∙ one ∙ ap (λ (o : Reading (List ℕ)). o >>= λ ys. Some (c ∷ ys.0, ys.1)) more
+      let one = turn quote (part_of quote) (byte_text quote c ++ after) after c (first.opens after) (byte_read c after) less in
+      let more : all_until quote (part_of quote) after ≡ Some (text, rest) = parts_read text rest in
+      ap (all_until quote (part_of quote)) whole ∙ one ∙ ap (λ (o : Reading (List ℕ)). o >>= λ ys. Some (c ∷ ys.0, ys.1)) more
 
   -- a text between quotes is read
   pub quoted_read : (text rest : List ℕ) → IsUtf8 text → quoted_of quote ((flat_map (byte_text quote) text ++ quote ∷ []) ++ rest) ≡ Some (text, rest)
@@ -90,6 +94,34 @@ module _ (quote : ℕ) (q : IsQuote quote) where
   quoted_read text rest u =
       let whole : (flat_map (byte_text quote) text ++ quote ∷ []) ++ rest ≡ flat_map (byte_text quote) text ++ quote ∷ rest = append_assoc (flat_map (byte_text quote) text) (quote ∷ []) rest in
       rw (whole, parts_read text rest, is_a_text text u) refl
+
+-- ** what is told by what was read
+
+pub part_is_text : (quote c : ℕ) (bs rest : List ℕ) → part_of quote bs ≡ Some (c, rest) → bs ≡ byte_text quote c ++ rest
+part_is_text quote c bs rest e =
+    let p = bound (spelled bs) (λ x. behind (byte_text quote x.0) bs >>= λ r. Some (x.0, r)) (c, rest) e in
+    let q = bound (behind (byte_text quote p.0.0) bs) (λ r. Some (p.0.0, r)) (c, rest) p.2 in
+    let s = both_are p.0.0 c q.0 rest q.2 in
+    behind_is (byte_text quote p.0.0) bs q.0 q.1 ∙ (λ i. byte_text quote (s.0 i) ++ s.1 i)
+
+parts_are : (quote n : ℕ) (bs rest text : List ℕ) → until quote (part_of quote) n bs ≡ Some (text, rest) → bs ≡ flat_map (byte_text quote) text ++ quote ∷ rest
+parts_are quote zero bs rest text e = absurd (no_turns quote (part_of quote) bs (text, rest) e)
+parts_are quote (suc n) bs rest text e = elim (turned quote (part_of quote) n bs rest text e) [
+  | inl ended ↦ is_first quote bs ended.begins ∙ ap (λ (cs : List ℕ). quote ∷ cs) ended.behind ∙ ap (λ (cs : List ℕ). flat_map (byte_text quote) cs ++ quote ∷ rest) (sym ended.none)
+  | inr t ↦ part_is_text quote t.first bs t.after t.read_is ∙ ap (λ (cs : List ℕ). byte_text quote t.first ++ cs) (parts_are quote n t.after rest t.others t.more)
+      ∙ sym (append_assoc (byte_text quote t.first) (flat_map (byte_text quote) t.others) (quote ∷ rest)) ∙ ap (λ (cs : List ℕ). flat_map (byte_text quote) cs ++ quote ∷ rest) t.whole
+]
+
+pub quoted_is : (quote : ℕ) (bs rest text : List ℕ) → quoted_of quote bs ≡ Some (text, rest) → IsUtf8 text × (bs ≡ (flat_map (byte_text quote) text ++ quote ∷ []) ++ rest)
+unfolding quoted_of
+quoted_is quote bs rest text e =
+    let p = bound (all_until quote (part_of quote) bs) (λ x. text_of x.0 >>= λ t. Some (t, x.1)) (text, rest) e in
+    let q = bound (text_of p.0.0) (λ t. Some (t, p.0.1)) (text, rest) p.2 in
+    let s = both_are q.0 text p.0.1 rest q.2 in
+    let t = text_is p.0.0 q.0 q.1 in
+    let whole = parts_are quote (suc (length bs)) bs p.0.1 p.0.0 p.1 in
+    let is : p.0.0 ≡ text = t.1 ∙ s.0 in
+    (subst IsUtf8 s.0 t.0, whole ∙ (λ i. flat_map (byte_text quote) (is i) ++ quote ∷ s.1 i) ∙ sym (append_assoc (flat_map (byte_text quote) text) (quote ∷ []) rest))
 
 pub double : IsQuote 34
 double = record { itself = refl; no_backslash = refl; escaped = λ rest. refl }

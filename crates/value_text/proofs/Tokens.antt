@@ -1,15 +1,18 @@
 -- Texts and tokens.
-use Rattle.std.proofs.Common.{◌≡◌, ℕ, ◌<◌, Bool, true, false, List, [], ◌∷◌, ◌++◌, length, Some, refl, sym, ap, ◌∙◌, arith, inl, inr}
-use Rattle.std.specs.Prelude.{◌==◌, not, IsUtf8, nat_lt}
+use Rattle.std.proofs.Common.{◌≡◌, ℕ, ◌<◌, true, false, List, [], ◌∷◌, ◌++◌, length, take, drop, Some, None, refl, sym, ap, ◌∙◌, subst, arith, inl, inr}
+use Rattle.std.specs.Prelude.{◌==◌, IsUtf8, nat_lt}
 use Rattle.std.specs.List.{list_all}
 use Rattle.std.specs.Str.{is_utf8}
 use Rattle.std.specs.Cmp.Lexicographic.{pointwise}
 use Rattle.std.proofs.Math.Seq.{take-append_seam, drop-append_seam}
 use Rattle.std.proofs.lemmas.Bool.{and_parts, both_ways, cases_Bool}
 use Rattle.std.proofs.lemmas.Bool.Decides.{nat_tests}
+use Rattle.std.proofs.lemmas.List.{take-append-drop}
+use Rattle.std.proofs.lemmas.Slice.Eq.{bytes_eq-Decides}
 use Rattle.std.proofs.lemmas.Str.{IsUtf8-from_ascii, IsUtf8-from_is_utf8, is_utf8-from_IsUtf8}
 use Rattle.flow_syntax.proofs.Characters.{ascii_text}
 use Rattle.value_text.specs.Reading.{begins_with, behind, is_token_byte, text_of, token_len, token_of}
+use Rattle.value_text.proofs.Told.{both_are, kept, one_is, passed}
 use Rattle.value_text.proofs.Numbers.{both}
 
 pub is_a_text : (bs : List ℕ) → IsUtf8 bs → text_of bs ≡ Some bs
@@ -20,6 +23,9 @@ not_utf8 bs h = elim (cases_Bool (is_utf8 bs)) [
   | inl holds ↦ absurd (h (IsUtf8-from_is_utf8 bs holds))
   | inr fails ↦ fails
 ]
+
+pub is_no_text : (bs : List ℕ) → (IsUtf8 bs → ⊥) → text_of bs ≡ None
+is_no_text bs h = rw (not_utf8 bs h) refl
 
 -- nothing, or a byte in front that no token has
 abbrev pub EndsToken : List ℕ → Type 0
@@ -39,7 +45,7 @@ front_len (c ∷ text) rest h e =
     let more : token_len (text ++ rest) ≡ length text = front_len text rest parts.1 e in
     rw parts.0 (omega (arith, more))
 
-not_zero : (n : ℕ) → 0 < n → (n == 0) ≡ false
+pub not_zero : (n : ℕ) → 0 < n → (n == 0) ≡ false
 not_zero n h = grind (arith, nat_tests)
 
 -- a token in front of what ends it is read
@@ -83,8 +89,28 @@ same_bytes (c ∷ text) = both (c == c) (pointwise ◌==◌ text text) (same_byt
 pub behind_read : (text rest : List ℕ) → behind text (text ++ rest) ≡ Some rest
 behind_read text rest = rw (take-append_seam text rest, drop-append_seam text rest, same_bytes text) refl
 
--- a test that says that two texts differ
-pub differ : (xs ys : List ℕ) (r : Bool) → r ≡ not (pointwise ◌==◌ xs ys) → r ≡ true → xs ≡ ys → ⊥
-differ xs ys r e h same =
-    let equal : pointwise ◌==◌ xs ys ≡ true = ap (pointwise ◌==◌ xs) (sym same) ∙ same_bytes xs in
-    both_ways r (e ∙ ap not equal) h
+-- ** what is told by what was read
+
+pub behind_is : (text bs rest : List ℕ) → behind text bs ≡ Some rest → bs ≡ text ++ rest
+behind_is text bs rest e =
+    let p = passed (pointwise ◌==◌ (take (length text) bs) text) (Some (drop (length text) bs)) rest e in
+    let front : take (length text) bs ≡ text = (bytes_eq-Decides (take (length text) bs) text).0 p.0 in
+    let back : drop (length text) bs ≡ rest = one_is (drop (length text) bs) rest p.1 in
+    sym (take-append-drop (length text) bs) ∙ (λ i. front i ++ back i)
+
+pub token_is : (bs : List ℕ) (t : List ℕ × List ℕ) → token_of bs ≡ Some t → bs ≡ t.0 ++ t.1
+token_is bs t e =
+    let n = token_len bs in
+    let p = kept (n == 0) (Some (take n bs, drop n bs)) t e in
+    let q = both_are (take n bs) t.0 (drop n bs) t.1 p.1 in
+    sym (take-append-drop n bs) ∙ (λ i. q.0 i ++ q.1 i)
+
+pub text_is : (bs text : List ℕ) → text_of bs ≡ Some text → IsUtf8 text × (bs ≡ text)
+text_is bs text e =
+    let p = passed (is_utf8 bs) (Some bs) text e in
+    let is = one_is bs text p.1 in
+    (subst IsUtf8 is (IsUtf8-from_is_utf8 bs p.0), is)
+
+pub is_first : (b : ℕ) (bs : List ℕ) → begins_with b bs ≡ true → bs ≡ b ∷ drop 1 bs
+is_first b [] h = cc
+is_first b (c ∷ bs) h = let same : c ≡ b = grind (arith, nat_tests) in ap (λ d. d ∷ bs) same

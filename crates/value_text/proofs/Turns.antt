@@ -1,11 +1,13 @@
 -- Reading things up to a closing byte, turn by turn.
-use Rattle.std.proofs.Common.{◌≡◌, ℕ, zero, suc, ◌<◌, Bool, true, false, List, [], ◌∷◌, ◌++◌, length, drop, Some, None, Option, refl, sym, arith, inl, inr, append_assoc, append-nil}
-use Rattle.std.specs.Prelude.{◌⊎◌, nat_lt}
+use Rattle.std.proofs.Common.{◌≡◌, ℕ, zero, suc, ◌<◌, Bool, true, false, List, [], ◌∷◌, ◌++◌, length, drop, Some, None, Option, refl, sym, ap, ◌∙◌, arith, inl, inr, append_assoc, append-nil}
+use Rattle.std.specs.Prelude.{◌⊎◌, nat_lt, if◌then◌else◌}
 use Rattle.std.proofs.lemmas.Bool.{cases_Bool}
 use Rattle.std.proofs.lemmas.Bool.Decides.{nat_tests}
+use Rattle.flow_syntax.proofs.Fronts.{chosen}
 use Rattle.value_text.specs.declared.refusal.ValueRefusal.{ValueRefusal}
 use Rattle.value_text.specs.declared.refusal.ValueRefusal.TheVariants as refusals
-use Rattle.value_text.specs.Reading.{Reading, GivesNone, ◌>>=◌, begins_with, and_comma, without_comma, until, all_until, continued}
+use Rattle.value_text.specs.Reading.{Reading, GivesNone, ◌>>=◌, begins_with, listed_part, next_part, until, all_until, continued}
+use Rattle.value_text.proofs.Told.{both_are, bound, passed}
 
 pub option_cases : {X : Type 0} (o : Option X) → (o ≡ None) ⊎ ((x : X) × (o ≡ Some x))
 option_cases None = inl refl
@@ -60,9 +62,12 @@ module _ {X : Type 0} (closing : ℕ) (read : List ℕ → Reading X) where
   unfolding until
   none_turn bs h e = rw (h, e) refl
 
-  pub end : (bs : List ℕ) → begins_with closing bs ≡ true → all_until closing read bs ≡ Some ([], drop 1 bs)
+  pub closed : (n : ℕ) (bs : List ℕ) → begins_with closing bs ≡ true → until closing read (suc n) bs ≡ Some ([], drop 1 bs)
   unfolding until
-  end bs h = rw h refl
+  closed n bs h = rw h refl
+
+  pub end : (bs : List ℕ) → begins_with closing bs ≡ true → all_until closing read bs ≡ Some ([], drop 1 bs)
+  end bs h = closed (length bs) bs h
 
   -- one turn of a loop that reads
   pub continued_turn : (before after : List X) (bs u : List ℕ) (x : X) → begins_with closing bs ≡ false → read bs ≡ Some (x, u) → length u < length bs → after ≡ before ++ x ∷ []
@@ -80,9 +85,48 @@ pub none_along : {X Y : Type 0} (e : ValueRefusal) (o : Option X) (q : Option Y)
 none_along refusals.Form o q f h = f h
 none_along refusals.NoMemory o q f h = tt
 
--- a thing with the comma behind it
-pub comma_none : {X : Type 0} (read : List ℕ → Reading X) (bs : List ℕ) → read bs ≡ None → and_comma read bs ≡ None
-comma_none read bs e = rw e refl
+-- a thing, and what parts it from the next
+module _ {X : Type 0} (closing : ℕ) (read : List ℕ → Reading X) where
+  pub listed_none : (bs : List ℕ) → read bs ≡ None → listed_part closing read bs ≡ None
+  listed_none bs e = rw e refl
 
-pub comma_read : {X : Type 0} (read : List ℕ → Reading X) (bs u v : List ℕ) (x : X) → read bs ≡ Some (x, u) → v ≡ without_comma u → and_comma read bs ≡ Some (x, v)
-comma_read read bs u v x e d = rw (e, d) refl
+  pub unparted : (bs u : List ℕ) (x : X) → read bs ≡ Some (x, u) → next_part closing u ≡ None → listed_part closing read bs ≡ None
+  unparted bs u x e d = rw (e, d) refl
+
+  pub listed_read : (bs u v : List ℕ) (x : X) → read bs ≡ Some (x, u) → next_part closing u ≡ Some v → listed_part closing read bs ≡ Some (x, v)
+  listed_read bs u v x e d = rw (e, d) refl
+
+-- ** what is told by what was read
+
+-- the closing byte stands in front
+pub record Ended {X : Type 0} (closing : ℕ) (bs rest : List ℕ) (xs : List X) : Type 0 where
+  pub begins : begins_with closing bs ≡ true
+  pub none : xs ≡ []
+  pub behind : drop 1 bs ≡ rest
+
+-- one thing, and others behind it
+pub record Turned {X : Type 0} (closing : ℕ) (read : List ℕ → Reading X) (n : ℕ) (bs rest : List ℕ) (xs : List X) : Type 0 where
+  pub first : X
+  pub after : List ℕ
+  pub others : List X
+  pub read_is : read bs ≡ Some (first, after)
+  pub more : until closing read n after ≡ Some (others, rest)
+  pub whole : first ∷ others ≡ xs
+
+module _ {X : Type 0} (closing : ℕ) (read : List ℕ → Reading X) where
+  pub no_turns : (bs : List ℕ) (x : List X × List ℕ) → until closing read zero bs ≡ Some x → ⊥
+  unfolding until
+  no_turns bs x e = cc
+
+  pub turned : (n : ℕ) (bs rest : List ℕ) (xs : List X) → until closing read (suc n) bs ≡ Some (xs, rest) → Ended closing bs rest xs ⊎ Turned closing read n bs rest xs
+  unfolding until
+  turned n bs rest xs e =
+      elim (chosen (begins_with closing bs) (Some ([], drop 1 bs))
+      (read bs >>= λ x. if nat_lt (length x.1) (length bs) then (until closing read n x.1 >>= λ ys. Some (x.0 ∷ ys.0, ys.1)) else None) (Some (xs, rest)) e) [
+        | inl (h, is) ↦ (let p = both_are [] xs (drop 1 bs) rest is in inl (record { begins = h; none = sym p.0; behind = p.1 }))
+        | inr (h, is) ↦ (let p = bound (read bs) _ (xs, rest) is in
+            let q = passed (nat_lt (length p.0.1) (length bs)) _ (xs, rest) p.2 in
+            let r = bound (until closing read n p.0.1) _ (xs, rest) q.1 in
+            let s = both_are (p.0.0 ∷ r.0.0) xs r.0.1 rest r.2 in
+            inr (record { first = p.0.0; after = p.0.1; others = r.0.0; read_is = p.1; more = r.1 ∙ ap (λ t. Some (r.0.0, t)) s.1; whole = s.0 }))
+      ]

@@ -1,8 +1,8 @@
--- What the reader computes: a value and the bytes behind it, or nothing. It takes each value's text, and others that their value's text then
--- tells from it.
-use Rattle.std.specs.Prelude.{◌≡◌, ℕ, zero, suc, ◌+◌, ◌*◌, ◌^◌, ◌==◌, ◌&&◌, ◌||◌, nat_lt, if◌then◌else◌, Bool, false, ℤ, pos, negsuc, List, [], ◌∷◌, ◌++◌, length, take, drop, codes, bytes_eq, Option, Some, None, option_and_then, option_map, unwrap_or, Result, Ok, Err}
-use Rattle.std.specs.Char.{digit_value, is_ascii_alphanumeric, is_ascii_digit}
-use Rattle.std.specs.List.{prefix_len, list_all}
+-- What the reader computes: a value and the bytes behind it, or nothing. Of a value it takes the one text.
+use Rattle.std.specs.Prelude.{◌≡◌, ℕ, zero, suc, ◌+◌, ◌*◌, ◌^◌, ◌==◌, ◌&&◌, ◌||◌, not, nat_lt, if◌then◌else◌, Bool, false, ℤ, pos, negsuc, List, [], ◌∷◌, ◌++◌, length, take, drop, codes, bytes_eq, Option, Some, None, option_and_then, option_map, Result, Ok, Err}
+use Rattle.std.specs.Char.{digit_value, is_ascii_alphabetic, is_ascii_alphanumeric, is_ascii_digit}
+use Rattle.std.specs.Fmt.{signed_decimal}
+use Rattle.std.specs.List.{prefix_len, list_all, list_any}
 use Rattle.std.specs.Cmp.Lexicographic.{pointwise}
 use Rattle.std.specs.Str.{all_ascii_digits, is_utf8}
 use Rattle.std.specs.Str.Parse.{signed_digits_value, without_leading_sign}
@@ -15,8 +15,11 @@ use Rattle.flow_term.specs.declared.path_text.PathRefusal.{PathRefusal}
 use Rattle.flow_term.specs.declared.path_text.PathRefusal.TheVariants as paths
 use Rattle.flow_term.specs.Paths.{path_text}
 use Rattle.flow_syntax.specs.Lexing.{octal_value}
+use Rattle.flow_syntax.specs.Tokens.{is_name_byte, reserved_words}
 use Rattle.value_text.specs.declared.refusal.ValueRefusal.{ValueRefusal}
 use Rattle.value_text.specs.declared.refusal.ValueRefusal.TheVariants.{Form, NoMemory}
+use Rattle.value_text.specs.Rising.{rises}
+use Rattle.value_text.specs.Texts.{byte_text, keys}
 
 -- -- answers
 
@@ -55,8 +58,9 @@ begins_with b (c ∷ cs) = c == b
 abbrev pub behind : List ℕ → List ℕ → Option (List ℕ)
 behind text bs = if pointwise ◌==◌ (take (length text) bs) text then Some (drop (length text) bs) else None
 
-abbrev pub without_comma : List ℕ → List ℕ
-without_comma bs = unwrap_or (behind (codes ", ") bs) bs
+-- what stands behind a thing in a list up to this byte: the byte itself, or the next thing behind a comma and a blank
+abbrev pub next_part : ℕ → List ℕ → Option (List ℕ)
+next_part closing bs = if begins_with closing bs then Some bs else (behind (codes ", ") bs >>= λ r. if begins_with closing r then None else Some r)
 
 -- things up to this byte, each shorter than what it stands in, at most so many
 unfoldable pub until : {X : Type 0} → ℕ → (List ℕ → Reading X) → ℕ → List ℕ → Reading (List X)
@@ -103,13 +107,27 @@ escape_of (b ∷ rest) = if b == 110 then Some (10, rest)
     else (if b == 114 then Some (13, rest)
     else (if is_ascii_digit b then octal_at (b ∷ rest) else Some (b, rest))))
 
-abbrev pub part_of : List ℕ → Reading ℕ
-part_of [] = None
-part_of (b ∷ rest) = if b == 92 then escape_of rest else Some (b, rest)
+abbrev pub spelled : List ℕ → Reading ℕ
+spelled [] = None
+spelled (b ∷ rest) = if b == 92 then escape_of rest else Some (b, rest)
+
+-- the byte whose text between quotes of this kind stands in front
+abbrev pub part_of : ℕ → List ℕ → Reading ℕ
+part_of quote bs = spelled bs >>= λ x. behind (byte_text quote x.0) bs >>= λ r. Some (x.0, r)
 
 -- the text up to a quote of this kind
 unfoldable pub quoted_of : ℕ → List ℕ → Reading (List ℕ)
-quoted_of quote bs = all_until quote part_of bs >>= λ x. text_of x.0 >>= λ text. Some (text, x.1)
+quoted_of quote bs = all_until quote (part_of quote) bs >>= λ x. text_of x.0 >>= λ text. Some (text, x.1)
+
+-- -- identifiers
+
+-- an identifier: a letter in front of letters, digits and `_`, and no reserved word
+abbrev pub is_item : List ℕ → Bool
+is_item [] = false
+is_item (b ∷ bs) = is_ascii_alphabetic b && (list_all is_name_byte bs && not (list_any (λ w. bytes_eq w (b ∷ bs)) reserved_words))
+
+unfoldable pub item_of : List ℕ → Option (List ℕ)
+item_of bs = text_of bs >>= λ text. if is_item text then Some text else None
 
 -- -- integers and paths
 
@@ -128,6 +146,10 @@ number_in bs = if is_numeral (without_leading_sign bs) && is_i64 (signed_digits_
 
 unfoldable pub integer_of : List ℕ → Option ℤ
 integer_of bs = if is_utf8 bs then number_in bs else None
+
+-- the integer that these bytes are the decimal of
+unfoldable pub decimal_of : List ℕ → Option ℤ
+decimal_of bs = integer_of bs >>= λ z. if bytes_eq (signed_decimal z) bs then Some z else None
 
 -- the numbers that digits and the slashes between them write, the first after n
 abbrev pub steps_after : ℕ → List ℕ → List ℕ
@@ -158,7 +180,7 @@ begins_integer (b ∷ bs) = b == 45 || is_ascii_digit b
 
 abbrev pub token_elem : List ℕ → Option Elem
 token_elem token = if begins_with 47 token then option_map elem.Pos (path_of token)
-    else (if begins_integer token then option_map elem.Int (integer_of token) else option_map elem.Item (text_of token))
+    else (if begins_integer token then option_map elem.Int (decimal_of token) else option_map elem.Item (item_of token))
 
 unfoldable pub plain_elem : List ℕ → Reading Elem
 plain_elem bs = token_of bs >>= λ t. token_elem t.0 >>= λ e. Some (e, t.1)
@@ -176,9 +198,13 @@ elem_below (suc n) bs = elem_with (elem_below n) bs
 
 -- -- values
 
--- a thing, and a comma behind it, if there is one
-abbrev pub and_comma : {X : Type 0} → (List ℕ → Reading X) → List ℕ → Reading X
-and_comma read bs = read bs >>= λ x. Some (x.0, without_comma x.1)
+-- a thing in a list up to this byte, and what parts it from the next
+abbrev pub listed_part : {X : Type 0} → ℕ → (List ℕ → Reading X) → List ℕ → Reading X
+listed_part closing read bs = read bs >>= λ x. next_part closing x.1 >>= λ r. Some (x.0, r)
+
+-- things up to this byte with commas between them, and what stands behind it
+abbrev pub all_listed : {X : Type 0} → ℕ → (List ℕ → Reading X) → List ℕ → Reading (List X)
+all_listed closing read bs = all_until closing (listed_part closing read) bs
 
 unfoldable pub entry_with : (List ℕ → Reading Elem) → (List ℕ → Reading Value) → List ℕ → Reading Entry
 entry_with elem value bs = elem bs >>= λ k. behind (codes " |-> ") k.1 >>= λ r. value r >>= λ v. Some (record { key = k.0; value = v.0 }, v.1)
@@ -191,18 +217,25 @@ abbrev pub word_with : (List ℕ → Reading Elem) → List ℕ → List ℕ →
 word_with elem word rest = if bytes_eq word (codes "unreached") then Some (value.Unreached, rest)
     else (if bytes_eq word (codes "bottom") then Some (value.Bottom, rest)
     else (if bytes_eq word (codes "top") then Some (value.Top, rest)
-    else (if bytes_eq word (codes "flat") then flat_with elem rest else Some (value.Item word, rest))))
+    else (if bytes_eq word (codes "flat") then flat_with elem rest else (item_of word >>= λ text. Some (value.Item text, rest)))))
 
 unfoldable pub plain_value : (List ℕ → Reading Elem) → List ℕ → Reading Value
-plain_value elem bs = token_of bs >>= λ t. text_of t.0 >>= λ word. word_with elem word t.1
+plain_value elem bs = token_of bs >>= λ t. word_with elem t.0 t.1
 
--- a value, from readers of its parts
-unfoldable pub value_with : (List ℕ → Reading Elem) → (List ℕ → Reading Value) → List ℕ → Reading Value
-value_with elem part bs = if begins_with 123 bs then as_part value.Set (all_until 125 (and_comma elem) (drop 1 bs))
-    else (if begins_with 91 bs then as_part value.Map (all_until 93 (and_comma (entry_with elem part)) (drop 1 bs))
+-- a set or a map of things that rise, behind its opening bracket, where brackets may nest so deep
+unfoldable pub set_with : ℕ → (List ℕ → Reading Elem) → List ℕ → Reading Value
+set_with n elem bs = if n == 0 then None else (all_listed 125 elem bs >>= λ x. if rises x.0 then Some (value.Set x.0, x.1) else None)
+
+unfoldable pub map_with : ℕ → (List ℕ → Reading Elem) → (List ℕ → Reading Value) → List ℕ → Reading Value
+map_with n elem part bs = if n == 0 then None else (all_listed 93 (entry_with elem part) bs >>= λ x. if rises (keys x.0) then Some (value.Map x.0, x.1) else None)
+
+-- a value in which brackets may nest so deep, from readers of its parts
+unfoldable pub value_with : ℕ → (List ℕ → Reading Elem) → (List ℕ → Reading Value) → List ℕ → Reading Value
+value_with n elem part bs = if begins_with 123 bs then set_with n elem (drop 1 bs)
+    else (if begins_with 91 bs then map_with n elem part (drop 1 bs)
     else (if begins_with 40 bs then pair_with value.Pair part (drop 1 bs) else plain_value elem bs))
 
 -- a value inside so many pairs of brackets less one
 abbrev pub value_below : ℕ → List ℕ → Reading Value
 value_below zero bs = None
-value_below (suc n) bs = value_with (elem_below n) (value_below n) bs
+value_below (suc n) bs = value_with n (elem_below n) (value_below n) bs

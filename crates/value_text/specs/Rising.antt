@@ -1,10 +1,23 @@
--- How a rise of elements is tested.
-use Rattle.std.specs.Prelude.{◌≡◌, ⊤, List, [], ◌∷◌}
-use Rattle.std.specs.declared.cmp.Ordering.TheVariants.{Less}
+-- How a rise of elements is tested, and that their order is total.
+use Rattle.std.proofs.Common.{subst}
+use Rattle.std.specs.Prelude.{Bool, true, ◌&&◌, List, [], ◌∷◌}
+use Rattle.std.specs.Cmp.{IsTotalOrder}
+use Rattle.std.specs.Ordering.{is_lt}
+use Rattle.flow_term.specs.contracts.elem.ElemOrd.TheImpl.Laws as laws
 use Rattle.flow_term.specs.declared.elem.Elem.{Elem}
 use Rattle.flow_term.specs.Elements.{elem_cmp}
+use Rattle.flow_term.specs.ElementsLaws.{elements_ordered}
+
+-- the derived comparison of elements, which is total, is that of the specification
+pub elem_total : IsTotalOrder elem_cmp
+elem_total = subst IsTotalOrder (λ i x y. elements_ordered x y i) laws.total-law
 
 -- x is below the first of the list, if there is one
-abbrev pub IsBelowFirst : Elem → List Elem → Type 0
-IsBelowFirst x [] = ⊤
-IsBelowFirst x (y ∷ ys) = elem_cmp x y ≡ Less
+abbrev pub is_below_first : Elem → List Elem → Bool
+is_below_first x [] = true
+is_below_first x (y ∷ ys) = is_lt (elem_cmp x y)
+
+-- each is below the next
+abbrev pub rises : List Elem → Bool
+rises [] = true
+rises (x ∷ xs) = is_below_first x xs && rises xs

@@ -1,9 +1,9 @@
 //! What bytes begin with.
-ghost use Rattle.std.specs.Prelude.{◌≡◌, ◌<◌, ◌≤◌, IfOk, length, drop};
-ghost use Rattle.value_text.specs.Reading.{Gives, begins_with, behind, is_token_byte, text_of, token_len, token_of, without_comma};
+ghost use Rattle.std.specs.Prelude.{◌≡◌, ◌+◌, ◌<◌, ◌≤◌, IfOk, length, drop};
+ghost use Rattle.value_text.specs.Reading.{Gives, begins_with, behind, is_token_byte, next_part, text_of, token_len, token_of};
 
 use crate::refusal::ValueRefusal;
-use flow_term::Text;
+use flow_term::{List, Text};
 use std::alloc::Global;
 
 /// What was read, and the bytes behind it.
@@ -21,7 +21,7 @@ pub fn begins_with(bytes: &[u8], byte: u8) -> bool
 /// What stands behind the text with which the bytes are to begin.
 pub fn behind<'a>(bytes: &'a [u8], text: &[u8]) -> Result<&'a [u8], ValueRefusal>
     ensures read { Gives (λ x. x.now) result (behind text.now bytes.now) }
-    ensures shorter { IfOk result (λ rest. length rest.now ≤ length bytes.now) }
+    ensures shorter { IfOk result (λ rest. length rest.now + length text.now ≤ length bytes.now) }
 {
     match bytes.strip_prefix(text) {
         Some(rest) => Ok(rest),
@@ -29,15 +29,19 @@ pub fn behind<'a>(bytes: &'a [u8], text: &[u8]) -> Result<&'a [u8], ValueRefusal
     }
 }
 
-/// What stands behind the comma and the blank with which the bytes may begin.
-pub fn without_comma(bytes: &[u8]) -> &[u8]
-    ensures read { result.now ≡ without_comma bytes.now }
-    ensures shorter { length result.now ≤ length bytes.now }
+/// What stands behind a thing in a list up to the closing byte: that byte, or the next thing behind a comma and a blank.
+pub fn next_part(bytes: &[u8], closing: u8) -> Result<&[u8], ValueRefusal>
+    ensures read { Gives (λ x. x.now) result (next_part closing bytes.now) }
+    ensures shorter { IfOk result (λ rest. length rest.now ≤ length bytes.now) }
 {
-    match bytes.strip_prefix(b", ".as_slice()) {
-        Some(rest) => rest,
-        None => bytes,
+    if begins_with(bytes, closing) {
+        return Ok(bytes);
     }
+    let rest = behind(bytes, b", ".as_slice())?;
+    if begins_with(rest, closing) {
+        return Err(ValueRefusal::Form);
+    }
+    Ok(rest)
 }
 
 /// What stands behind the first byte.
@@ -84,4 +88,14 @@ pub fn text_of(alloc: Global, bytes: &[u8]) -> Result<Text, ValueRefusal>
         return Err(ValueRefusal::Form);
     };
     Ok(Text::from_string(String::from_str(alloc, text)?))
+}
+
+/// The text that these bytes are, which are to be UTF-8.
+pub fn made_text(bytes: List<u8>) -> Result<Text, ValueRefusal>
+    ensures { Gives (λ text. text) result (text_of bytes) }
+{
+    match Text::from_utf8(bytes) {
+        Some(text) => Ok(text),
+        None => Err(ValueRefusal::Form),
+    }
 }

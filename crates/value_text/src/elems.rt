@@ -1,15 +1,15 @@
 //! Reading elements.
 ghost use Rattle.std.specs.Prelude.{◌≡◌, ◌<◌, ◌≤◌, IfOk, length, codes};
 ghost use Rattle.flow_term.specs.declared.elem.Elem.TheVariants.{Pair};
-ghost use Rattle.value_text.specs.Reading.{Gives, all_until, and_comma, elem_below, elem_with, integer_of, pair_with, path_of, plain_elem, token_elem};
+ghost use Rattle.value_text.specs.Reading.{Gives, all_listed, decimal_of, elem_below, elem_with, integer_of, pair_with, path_of, plain_elem, token_elem};
 
-use crate::bytes::{
-    Reading, begins_with, behind, behind_first, read_token, text_of, without_comma,
-};
+use crate::bytes::{Reading, begins_with, behind, behind_first, next_part, read_token};
+use crate::identifier::item_of;
 use crate::limits::steps_are_small;
 use crate::quoted::read_quoted;
 use crate::refusal::ValueRefusal;
 use flow_term::{Boxed, Elem, List, Path, read_path};
+use itoa::Buffer;
 use std::alloc::Global;
 
 /// The integer of these bytes.
@@ -26,6 +26,19 @@ fn integer_of(bytes: &[u8]) -> Result<i64, ValueRefusal>
     }
 }
 
+/// The integer of which these bytes are the decimal.
+#[tactic(auto, unfolding(crate::specs::Reading::decimal_of))]
+fn decimal_of(bytes: &[u8]) -> Result<i64, ValueRefusal>
+    ensures { Gives (λ n. n) result (decimal_of bytes.now) }
+{
+    let number = integer_of(bytes)?;
+    let mut buffer = Buffer::new();
+    if buffer.format(number).as_bytes() != bytes {
+        return Err(ValueRefusal::Form);
+    }
+    Ok(number)
+}
+
 fn path_of(alloc: Global, bytes: &[u8]) -> Result<Path, ValueRefusal>
     ensures { Gives (λ path. path) result (path_of bytes.now) }
 {
@@ -40,8 +53,8 @@ fn token_elem(alloc: Global, token: &[u8]) -> Result<Elem, ValueRefusal>
 {
     match token {
         [b'/', ..] => Ok(Elem::Pos(path_of(alloc, token)?)),
-        [b'-' | b'0'..=b'9', ..] => Ok(Elem::Int(integer_of(token)?)),
-        _ => Ok(Elem::Item(text_of(alloc, token)?)),
+        [b'-' | b'0'..=b'9', ..] => Ok(Elem::Int(decimal_of(token)?)),
+        _ => Ok(Elem::Item(item_of(alloc, token)?)),
     }
 }
 
@@ -105,7 +118,7 @@ fn read_pair(alloc: Global, nesting: usize, bytes: &[u8]) -> Reading<'_, Elem>
 
 /// The elements before a closing brace, and what stands behind it.
 pub fn read_elems(alloc: Global, nesting: usize, bytes: &[u8]) -> Reading<'_, List<Elem>>
-    ensures read { Gives (λ x. (x.0, x.1.now)) result (all_until 125 (and_comma (elem_below nesting)) bytes.now) }
+    ensures read { Gives (λ x. (x.0, x.1.now)) result (all_listed 125 (elem_below nesting) bytes.now) }
     ensures shorter { IfOk result (λ x. length x.1.now < length bytes.now) }
 {
     let mut elems = List::new(alloc);
@@ -113,7 +126,7 @@ pub fn read_elems(alloc: Global, nesting: usize, bytes: &[u8]) -> Reading<'_, Li
     while !begins_with(rest, b'}') {
         let (elem, after) = read_elem_below(alloc, nesting, rest)?;
         elems.push(elem)?;
-        rest = without_comma(after);
+        rest = next_part(after, b'}')?;
     }
     Ok((elems, behind_first(rest)))
 }

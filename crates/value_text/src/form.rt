@@ -1,17 +1,14 @@
 //! Which values have a text.
-ghost use Rattle.std.specs.Prelude.{◌≡◌, ◌↔◌, All, IsTrue};
-ghost use Rattle.std.specs.List.{list_all};
+ghost use Rattle.std.specs.Prelude.{◌↔◌, All, IsTrue};
 ghost use Rattle.std.specs.List.Sorted.{IsStrictlySortedBy};
 ghost use Rattle.flow_term.specs.declared.value.Value.{out-Value};
 ghost use Rattle.flow_term.specs.Elements.{elem_cmp};
 ghost use Rattle.flow_syntax.specs.Accepted.{IsIdentifier};
-ghost use Rattle.flow_syntax.specs.Tokens.{IsName, is_name_byte};
-ghost use Rattle.value_text.specs.Rising.{IsBelowFirst};
 ghost use Rattle.value_text.specs.Texts.{HasElemText, HasText, HasValueText, IsPlain, IsPlainOrAround, keys};
 
+use crate::identifier::is_identifier;
 use crate::limits::{integer_is_in_range, steps_are_small, text_is_utf8};
-use flow_syntax::is_reserved;
-use flow_term::{Elem, Entry, Text, Value};
+use flow_term::{Elem, Entry, Value};
 
 /// Whether the value has a text: sets and the keys of maps rise strictly, items are identifiers and no reserved words, and brackets nest at
 /// most 16 deep. Takes no memory.
@@ -21,79 +18,18 @@ pub fn has_text(value: &Value) -> bool
     value_has_text(16, value)
 }
 
-fn is_name_byte(byte: u8) -> bool
-    ensures { result ≡ is_name_byte byte }
-{
-    byte.is_ascii_alphanumeric() || byte == b'_'
-}
-
-fn are_name_bytes(bytes: &[u8]) -> bool
-    ensures { result ≡ list_all is_name_byte bytes.now }
-{
-    bytes.iter().all(|byte| is_name_byte(*byte))
-}
-
-fn is_name(bytes: &[u8]) -> bool
-    ensures { IsTrue result ↔ IsName bytes.now }
-{
-    match bytes {
-        [first, others @ ..] => first.is_ascii_alphabetic() && are_name_bytes(others),
-        [] => false,
-    }
-}
-
-fn is_identifier(text: &Text) -> bool
-    ensures { IsTrue result ↔ IsIdentifier text.now }
-{
-    is_name(text.as_str().as_bytes()) && !is_reserved(text.as_str())
-}
-
-/// Whether the element is below the first of the others.
-fn is_below_first(elem: &Elem, others: &[Elem]) -> bool
-    ensures { IsTrue result ↔ IsBelowFirst elem.now others.now }
-{
-    match others.first() {
-        Some(first) => elem.cmp(first).is_lt(),
-        None => true,
-    }
-}
-
 /// Whether the elements rise strictly. Takes no memory.
 pub fn elems_rise(elems: &[Elem]) -> bool
     ensures { IsTrue result ↔ IsStrictlySortedBy elem_cmp elems.now }
 {
-    let mut rest = elems;
-    while let Some((elem, others)) = rest.split_first() {
-        if !is_below_first(elem, others) {
-            return false;
-        }
-        rest = others;
-    }
-    true
-}
-
-/// Whether the key is below the first of the others.
-fn is_below_first_key(key: &Elem, others: &[Entry]) -> bool
-    ensures { IsTrue result ↔ IsBelowFirst key.now (keys others.now) }
-{
-    match others.first() {
-        Some(first) => key.cmp(&first.key).is_lt(),
-        None => true,
-    }
+    elems.is_sorted_by(|a, b| a.cmp(b).is_lt())
 }
 
 /// Whether the keys rise strictly. Takes no memory.
 pub fn keys_rise(entries: &[Entry]) -> bool
     ensures { IsTrue result ↔ IsStrictlySortedBy elem_cmp (keys entries.now) }
 {
-    let mut rest = entries;
-    while let Some((entry, others)) = rest.split_first() {
-        if !is_below_first_key(&entry.key, others) {
-            return false;
-        }
-        rest = others;
-    }
-    true
+    entries.is_sorted_by(|a, b| a.key.cmp(&b.key).is_lt())
 }
 
 /// Whether the element has a text, in which brackets nest at most so deep.

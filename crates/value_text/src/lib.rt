@@ -4,11 +4,13 @@
 mod bytes;
 mod elems;
 mod form;
+mod identifier;
 mod laws;
 mod limits;
 mod quoted;
 mod reader;
 mod refusal;
+mod spelling;
 mod values;
 mod writer;
 

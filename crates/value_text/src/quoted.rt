@@ -1,10 +1,12 @@
 //! Texts between quotes.
-ghost use Rattle.std.specs.Prelude.{◌≡◌, ◌<◌, ◌≤◌, IfOk, length};
-ghost use Rattle.value_text.specs.Reading.{Gives, all_until, escape_of, octal_at, part_of, quoted_of};
+ghost use Rattle.std.specs.Prelude.{◌≡◌, ◌+◌, ◌<◌, ◌≤◌, IfOk, length};
+ghost use Rattle.value_text.specs.Reading.{Gives, all_until, behind, escape_of, octal_at, part_of, quoted_of, spelled};
 ghost use Rattle.flow_syntax.specs.Lexing.{octal_value};
+ghost use Rattle.value_text.specs.Texts.{byte_text};
 
-use crate::bytes::{Reading, begins_with, behind_first, text_of};
+use crate::bytes::{Reading, begins_with, behind, behind_first, made_text};
 use crate::refusal::ValueRefusal;
+use crate::spelling::Spelling;
 use flow_term::{List, Text};
 use std::alloc::Global;
 
@@ -33,7 +35,7 @@ fn read_octal(bytes: &[u8]) -> Reading<'_, u8>
     }
 }
 
-/// The byte that stands behind a backslash, or that it stands for. Which of the two is a byte's one spelling is asked later.
+/// The byte that stands behind a backslash, or that it stands for.
 fn read_escape(bytes: &[u8]) -> Reading<'_, u8>
     ensures read { Gives (λ x. (x.0, x.1.now)) result (escape_of bytes.now) }
     ensures shorter { IfOk result (λ x. length x.1.now < length bytes.now) }
@@ -48,9 +50,9 @@ fn read_escape(bytes: &[u8]) -> Reading<'_, u8>
     }
 }
 
-/// The first byte of what stands between quotes.
-fn read_part(bytes: &[u8]) -> Reading<'_, u8>
-    ensures read { Gives (λ x. (x.0, x.1.now)) result (part_of bytes.now) }
+/// The byte that the bytes begin with, or that their escape stands for.
+fn read_spelled(bytes: &[u8]) -> Reading<'_, u8>
+    ensures read { Gives (λ x. (x.0, x.1.now)) result (spelled bytes.now) }
     ensures shorter { IfOk result (λ x. length x.1.now < length bytes.now) }
 {
     match bytes {
@@ -60,15 +62,32 @@ fn read_part(bytes: &[u8]) -> Reading<'_, u8>
     }
 }
 
+/// What stands behind the one spelling of a byte between quotes of this kind.
+fn behind_byte(quote: u8, byte: u8, bytes: &[u8]) -> Result<&[u8], ValueRefusal>
+    ensures read { Gives (λ x. x.now) result (behind (byte_text quote byte) bytes.now) }
+    ensures shorter { IfOk result (λ rest. length rest.now + length (byte_text quote byte) ≤ length bytes.now) }
+{
+    behind(bytes, Spelling::of(quote, byte).as_slice())
+}
+
+/// The byte whose one spelling between quotes of this kind stands in front.
+fn read_part(quote: u8, bytes: &[u8]) -> Reading<'_, u8>
+    ensures read { Gives (λ x. (x.0, x.1.now)) result (part_of quote bytes.now) }
+    ensures shorter { IfOk result (λ x. length x.1.now < length bytes.now) }
+{
+    let (byte, _) = read_spelled(bytes)?;
+    Ok((byte, behind_byte(quote, byte, bytes)?))
+}
+
 /// What stands before a quote of this kind, and what behind it.
 fn read_parts(alloc: Global, quote: u8, bytes: &[u8]) -> Reading<'_, List<u8>>
-    ensures read { Gives (λ x. (x.0, x.1.now)) result (all_until quote part_of bytes.now) }
+    ensures read { Gives (λ x. (x.0, x.1.now)) result (all_until quote (part_of quote) bytes.now) }
     ensures shorter { IfOk result (λ x. length x.1.now < length bytes.now) }
 {
     let mut parts = List::new(alloc);
     let mut rest = bytes;
     while !begins_with(rest, quote) {
-        let (byte, after) = read_part(rest)?;
+        let (byte, after) = read_part(quote, rest)?;
         parts.push(byte)?;
         rest = after;
     }
@@ -82,5 +101,5 @@ pub fn read_quoted(alloc: Global, quote: u8, bytes: &[u8]) -> Reading<'_, Text>
     ensures shorter { IfOk result (λ x. length x.1.now < length bytes.now) }
 {
     let (parts, rest) = read_parts(alloc, quote, bytes)?;
-    Ok((text_of(alloc, parts.as_slice())?, rest))
+    Ok((made_text(parts)?, rest))
 }

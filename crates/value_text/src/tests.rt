@@ -1,6 +1,8 @@
 //! The written forms of values of each kind, which are read again, and texts of no value.
-use crate::{ValueRefusal, has_text, read_value, texts_have_one_value, write_value};
-use flow_term::{Elem, List, Text, Value};
+use crate::{
+    ValueRefusal, elems_rise, has_text, keys_rise, read_value, texts_have_one_value, write_value,
+};
+use flow_term::{Elem, Entry, List, Text, Value};
 use std::alloc::{AllocError, Global};
 use std::test::Fail;
 
@@ -42,6 +44,20 @@ fn names(alloc: Global, texts: &[&str]) -> Result<Value, AllocError> {
         elems.push(Elem::Name(text(alloc, bytes)?))?;
     }
     Ok(Value::Set(elems))
+}
+
+/// Whether integers rise as elements and as keys.
+fn rise(alloc: Global, numbers: &[i64]) -> Result<(bool, bool), AllocError> {
+    let mut elems = List::new(alloc);
+    let mut entries = List::new(alloc);
+    for number in numbers {
+        elems.push(Elem::Int(*number))?;
+        entries.push(Entry {
+            key: Elem::Int(*number),
+            value: Value::Top,
+        })?;
+    }
+    Ok((elems_rise(elems.as_slice()), keys_rise(entries.as_slice())))
 }
 
 /// So many brackets of each kind round the bytes.
@@ -91,6 +107,15 @@ fn writes_items_and_rising_sets(rt: HostRuntime) -> Result<(), Fail> {
 }
 
 #[test]
+fn integers_rise_strictly(rt: HostRuntime) -> Result<(), Fail> {
+    let alloc = rt.alloc();
+    assert_eq!(rt; rise(alloc, &[-1, 0, 5])?, (true, true));
+    assert_eq!(rt; rise(alloc, &[0, 0])?, (false, false));
+    assert_eq!(rt; rise(alloc, &[5, -1])?, (false, false));
+    Ok(())
+}
+
+#[test]
 fn reads_what_it_writes(rt: HostRuntime) -> Result<(), Fail> {
     let texts = [
         "unreached",
@@ -132,10 +157,15 @@ fn refuses_every_other_spelling(rt: HostRuntime) -> Result<(), Fail> {
         "{\"a\",\"b\"}",
         "{\"a\", \"a\"}",
         "{\"a\"  \"b\"}",
+        "{\"a\" \"b\"}",
+        "{\"a\",  \"b\"}",
+        "{ \"a\"}",
+        "{\"a\", }",
         "{'a', \"a\"}",
         "[1 |-> top, 1 |-> top]",
         "[2 |-> top, 1 |-> top]",
         "[1|->top]",
+        "[1 |->  top]",
         "flat (1)",
         "flat(1)1",
         "(top,bottom)",
@@ -196,6 +226,12 @@ fn brackets_nest_at_most_16_deep(rt: HostRuntime) -> Result<(), Fail> {
             "none"
         );
     }
+    Ok(())
+}
+
+#[test]
+fn pairs_in_a_set_nest_at_most_15_deep(rt: HostRuntime) -> Result<(), Fail> {
+    let alloc = rt.alloc();
     let deepest = nested(alloc, 14, "(1, ", "(1, 2)", ")")?;
     let deeper = nested(alloc, 15, "(1, ", "(1, 2)", ")")?;
     for (inside, want) in [(deepest.as_str(), true), (deeper.as_str(), false)] {

@@ -3,8 +3,9 @@ ghost use Rattle.std.specs.Prelude.{◌≡◌, ◌++◌, IfOk, OnOk, map, codes}
 ghost use Rattle.std.specs.Fmt.{signed_decimal};
 ghost use Rattle.flow_term.specs.Paths.{path_text};
 ghost use Rattle.value_text.specs.Laws.{IsTextOf};
-ghost use Rattle.value_text.specs.Texts.{HasText, byte_text, elem_text, entry_text, listed, octal_escape, quoted, separator, value_text};
+ghost use Rattle.value_text.specs.Texts.{HasText, byte_text, elem_text, entry_text, listed, quoted, separator, value_text};
 
+use crate::spelling::Spelling;
 use flow_term::{Elem, Entry, List, Path, Text, Value, write_path};
 use itoa::Buffer;
 use std::alloc::{AllocError, Global};
@@ -152,27 +153,5 @@ fn push_bytes(bytes: &mut Vec<u8>, quote: u8, text: &[u8]) -> Result<(), AllocEr
 fn push_byte(bytes: &mut Vec<u8>, quote: u8, byte: u8) -> Result<(), AllocError>
     ensures { OnOk result (bytes.new.items ≡ bytes.old.items ++ byte_text quote byte) }
 {
-    if byte == quote {
-        return bytes.extend_from_slice(&[b'\\', quote]);
-    }
-    match byte {
-        b'\\' => bytes.extend_from_slice(b"\\\\"),
-        b'\n' => bytes.extend_from_slice(b"\\n"),
-        b'\t' => bytes.extend_from_slice(b"\\t"),
-        b'\r' => bytes.extend_from_slice(b"\\r"),
-        0..=31 | 127 => push_octal(bytes, byte),
-        _ => Ok(bytes.push(byte)?),
-    }
-}
-
-fn push_octal(bytes: &mut Vec<u8>, byte: u8) -> Result<(), AllocError>
-    ensures { OnOk result (bytes.new.items ≡ bytes.old.items ++ octal_escape byte) }
-{
-    let digits = [
-        b'\\',
-        b'0' + byte / 64,
-        b'0' + byte / 8 % 8,
-        b'0' + byte % 8,
-    ];
-    bytes.extend_from_slice(&digits)
+    bytes.extend_from_slice(Spelling::of(quote, byte).as_slice())
 }

@@ -3,7 +3,7 @@ use Rattle.std.proofs.lemmas.Bool.{both_ways}
 use Rattle.lattice_sets.proofs.MapMerges.{answer_no, answer_yes, iff_then}
 use Rattle.lattice_any.specs.declared.any.AnyL.TheVariants as any
 use Rattle.lattice_any.proofs.AtTypes.{may_rising, must_rising, map_entries, some_pair, left_valid, right_valid}
-use Rattle.lattice_any.proofs.Depths.{order_map_falls, order_left_falls, order_right_falls}
+use Rattle.lattice_any.proofs.Depths.{map_falls, left_falls, right_falls}
 use Rattle.lattice_any.proofs.Orders.{may_below, must_below, flat_below, map_below, pair_below, both_answers, first_answer}
 use Rattle.lattice_any.proofs.Steps.{rest_passed, below_less, above_at_key, below_at_key, below_past, below_at_end}
 use Rattle.flow_syntax.specs.Lattices.{Valid, bottom_of, join_of}
@@ -26,7 +26,7 @@ is_below-is_below_must-requires-clause-right t c = must_rising _ _ _ c.in-Must.i
 pub is_below-are_below-requires : goal.is_below-are_below-requires
 is_below-are_below-requires t c =
     let e = c.in-Map.is ∙ ap (any.Map c.in-Map.field-0) (sym c.get.ensures) in
-    (order_map_falls _ _ _ t e c.decreases, (map_entries _ _ _ _ _ e c.requires.left c.entries.ensures, map_entries _ _ _ _ _ e c.requires.right c.entries-in-Map.ensures))
+    (map_falls _ _ _ t e c.decreases, (map_entries _ _ _ _ _ e c.requires.left c.entries.ensures, map_entries _ _ _ _ _ e c.requires.right c.entries-in-Map.ensures))
 
 pub is_below-parts-requires : goal.is_below-parts-requires
 is_below-parts-requires t c = some_pair _ _ _ _ c.in-Pair.is c.requires.left
@@ -37,12 +37,12 @@ is_below-parts-requires-in-Pair t c = some_pair _ _ _ _ c.in-Pair.is c.requires.
 pub is_below-is_below-requires : goal.is_below-is_below-requires
 is_below-is_below-requires t c =
     let e = c.in-Pair.is ∙ ap (λ l. any.Pair l c.in-Pair.right) (sym c.get-in-Pair.ensures) in
-    (order_left_falls _ _ _ t e c.decreases, (left_valid _ _ _ _ _ e c.requires.left c.parts.ensures.left, left_valid _ _ _ _ _ e c.requires.right c.parts-in-Pair.ensures.left))
+    (left_falls _ _ _ t e c.decreases, (left_valid _ _ _ _ _ e c.requires.left c.parts.ensures.left, left_valid _ _ _ _ _ e c.requires.right c.parts-in-Pair.ensures.left))
 
 pub is_below-is_below-requires-then-is_below : goal.is_below-is_below-requires-then-is_below
 is_below-is_below-requires-then-is_below t c =
     let e = c.in-Pair.is ∙ ap (any.Pair c.in-Pair.left) (sym c.get-then-is_below.ensures) in
-    (order_right_falls _ _ _ t e c.decreases, (right_valid _ _ _ _ _ e c.requires.left c.parts.ensures.right, right_valid _ _ _ _ _ e c.requires.right c.parts-in-Pair.ensures.right))
+    (right_falls _ _ _ t e c.decreases, (right_valid _ _ _ _ _ e c.requires.left c.parts.ensures.right, right_valid _ _ _ _ _ e c.requires.right c.parts-in-Pair.ensures.right))
 
 pub is_below-returns-in-May : goal.is_below-returns-in-May
 is_below-returns-in-May t c = may_below _ _ _ c.requires.left c.requires.right _ _ _ _ c.in-May.is c.elems.ensures c.elems-in-May.ensures c.includes.ensures

@@ -7,10 +7,10 @@ use Rattle.lattice_any.specs.Types.{type_of}
 use Rattle.lattice_any.proofs.order.+order.Given as goal
 
 abbrev pub decreases-is_below : goal.decreases-is_below
-decreases-is_below l = 2 * size-AnyL l.lattice.now
+decreases-is_below l = 3 * size-AnyL l.lattice.now
 
 abbrev pub decreases-are_below : goal.decreases-are_below
-decreases-are_below l = 2 * size-AnyL l.values.now + 1
+decreases-are_below l = 3 * size-AnyL l.values.now + 2
 
 abbrev pub invariant-are_below-loop-x : goal.invariant-are_below-loop-x
 invariant-are_below-loop-x l = record {

@@ -1,10 +1,10 @@
 use Rattle.std.proofs.Common.{◌≡◌, ◌≤◌, length}
-use Rattle.value_text.specs.Reading.{all_until, and_comma, continued, elem_below}
+use Rattle.value_text.specs.Reading.{all_listed, continued, elem_below}
 use Rattle.value_text.proofs.elems.read_elems.Given as goal
 
 abbrev pub invariant-loop-alloc : goal.invariant-loop-alloc
 invariant-loop-alloc l = record {
-  read : continued l.elems (all_until 125 (and_comma (elem_below l.nesting)) l.rest) ≡ all_until 125 (and_comma (elem_below l.nesting)) l.fn.bytes;
+  read : continued l.elems (all_listed 125 (elem_below l.nesting) l.rest) ≡ all_listed 125 (elem_below l.nesting) l.fn.bytes;
   within : length l.rest ≤ length l.fn.bytes;
 }
 

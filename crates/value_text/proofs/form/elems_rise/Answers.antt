@@ -1,11 +1,12 @@
-use Rattle.value_text.proofs.Forms.{rising_all, rising_fails, rising_step}
+use Rattle.std.proofs.Common.{◌≡◌, rules}
+use Rattle.std.specs.List.{IsAllAdjacentAnswer}
+use Rattle.std.specs.Ordering.{is_lt}
+use Rattle.std.proofs.lemmas.Fn.{always_returns_same}
+use Rattle.flow_term.specs.contracts.elem.ElemOrd.TheImpl as order
+use Rattle.value_text.proofs.Forms.{elems_told}
 use Rattle.value_text.proofs.form.elems_rise.Goals as goal
 
-pub returns-then-not-is_below_first : goal.returns-then-not-is_below_first
-returns-then-not-is_below_first c = rising_fails _ _ _ _ _ c.in-Some.ensures.cases.0 c.if-not-is_below_first.true c.is_below_first.ensures c.loop-elem.invariant
-
-pub loop-elem-preserved : goal.loop-elem-preserved
-loop-elem-preserved c = rising_step _ _ _ _ c.in-Some.ensures.cases.0 (c.is_below_first.ensures.0 c.if-not-is_below_first.false) c.loop-elem.invariant
-
 pub returns : goal.returns
-returns c = rising_all _ _ c.in_default.ensures.cases c.loop-elem.invariant
+returns c =
+    let told : IsAllAdjacentAnswer (λ x y b. b ≡ is_lt (order.ghosts.cmp x y)) c.args.elems.now c.is_sorted_by.result = c.is_sorted_by.ensures.cases (λ x y. is_lt (order.ghosts.cmp x y)) (always_returns_same _ _ _ (λ a r h called. search rules)) in
+    elems_told c.args.elems.now c.is_sorted_by.result told

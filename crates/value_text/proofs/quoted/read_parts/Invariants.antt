@@ -4,7 +4,7 @@ use Rattle.value_text.proofs.quoted.read_parts.Given as goal
 
 abbrev pub invariant-loop-rest : goal.invariant-loop-rest
 invariant-loop-rest l = record {
-  read : continued l.parts (all_until l.quote part_of l.rest) ≡ all_until l.quote part_of l.fn.bytes;
+  read : continued l.parts (all_until l.quote (part_of l.quote) l.rest) ≡ all_until l.quote (part_of l.quote) l.fn.bytes;
   within : length l.rest ≤ length l.fn.bytes;
 }
 
