@@ -6,6 +6,7 @@ use Rattle.std.specs.Option.{option_map}
 use Rattle.std.specs.Borrow.{Bor}
 use Rattle.std.specs.Cmp.Lexicographic.{bytes_decides}
 use Rattle.std.specs.HashSet.{HashSet}
+use Rattle.std.proofs.Math.Bool.{or-false, or_assoc}
 use Rattle.std.proofs.Math.Seq.{take-append-add}
 use Rattle.std.proofs.lemmas.Bool.{and_parts, cases_lt, eqb-true, or_left}
 use Rattle.std.proofs.lemmas.List.{append-nil, map-append, take-append-le, take_all, take_more}
@@ -18,6 +19,7 @@ use Rattle.flow_syntax.specs.declared.spec.Named.{Named}
 use Rattle.flow_syntax.specs.DeclFaults.{IsRepeated}
 use Rattle.flow_syntax.proofs.Listed.{any_at, at_any}
 use Rattle.earliest_fault.specs.Earliest.{Gathers, IsFaultWhere}
+use Rattle.earliest_fault.proofs.Firsts.{among_first, first_among}
 use Rattle.earliest_fault.proofs.GathersLaws.{Found, Gathers-none, Gathers-same, Gathers-then}
 use Rattle.decl_sorts.specs.Repeating.{AreMetAgain, AreRepeated, Meets, has_met, is_met_again, is_shape}
 
@@ -35,18 +37,6 @@ get_right : {X : Type 0} (xs ys : List X) (k : ℕ) → slice_get (xs ++ ys) (le
 get_right [] ys k = ap (slice_get ys) (omega arith)
 get_right (x ∷ xs) ys k = let next : length (x ∷ xs) + k ≡ suc (length xs + k) = omega arith in ap (slice_get (x ∷ (xs ++ ys))) next ∙ get_right xs ys k
 
-taken : {X : Type 0} (n : ℕ) (xs : List X) (k : ℕ) (x : X) → slice_get (take n xs) k ≡ Some x → (k < n) × (slice_get xs k ≡ Some x)
-taken zero xs k x e = cc
-taken (suc n) [] k x e = cc
-taken (suc n) (y ∷ ys) zero x e = (omega arith, e)
-taken (suc n) (y ∷ ys) (suc k) x e = let rest = taken n ys k x e in (omega (arith, rest.0), rest.1)
-
-take_of : {X : Type 0} (n : ℕ) (xs : List X) (k : ℕ) (x : X) → k < n → slice_get xs k ≡ Some x → slice_get (take n xs) k ≡ Some x
-take_of zero xs k x h e = absurd (omega arith)
-take_of (suc n) [] k x h e = cc
-take_of (suc n) (y ∷ ys) zero x h e = e
-take_of (suc n) (y ∷ ys) (suc k) x h e = take_of n ys k x (omega arith) e
-
 mapped : {X Y : Type 0} (f : X → Y) (xs : List X) (k : ℕ) (y : Y) → slice_get (map f xs) k ≡ Some y → (x : X) × (slice_get xs k ≡ Some x) × (f x ≡ y)
 mapped f [] k y e = cc
 mapped f (x ∷ xs) zero y e = (x, refl, same_Some (f x) y e)
@@ -57,14 +47,6 @@ map_of f xs k x e = slice_get-map f xs k ∙ ap (option_map f) e
 
 -- NAMES OF TWO LISTS
 
-or_false : (b : Bool) → b ≡ (b || false)
-or_false true = refl
-or_false false = refl
-
-or_assoc : (a b c : Bool) → (a || (b || c)) ≡ ((a || b) || c)
-or_assoc true b c = refl
-or_assoc false b c = refl
-
 module _ (met grown : List ℕ → ℕ → Bool) (xs ys : List Shape) (grows : (x : List ℕ) (n : ℕ) → grown x n ≡ (met x n || list_any (is_shape x n) xs)) where
   again_left : (k : ℕ) (s : Shape) → k ≤ length xs → is_met_again met (xs ++ ys) k s ≡ is_met_again met xs k s
   again_left k s within = ap (λ (zs : List Shape). met s.0.text s.1 || list_any (is_shape s.0.text s.1) zs) (take-append-le k xs ys within)
@@ -73,7 +55,7 @@ module _ (met grown : List ℕ → ℕ → Bool) (xs ys : List Shape) (grows : (
   again_right k s =
       ap (λ (zs : List Shape). met s.0.text s.1 || list_any (is_shape s.0.text s.1) zs) (take-append-add xs ys k)
       ∙ ap (λ b. met s.0.text s.1 || b) (list_any-append (is_shape s.0.text s.1) xs (take k ys))
-      ∙ or_assoc (met s.0.text s.1) (list_any (is_shape s.0.text s.1) xs) (list_any (is_shape s.0.text s.1) (take k ys))
+      ∙ sym (or_assoc (met s.0.text s.1) (list_any (is_shape s.0.text s.1) xs) (list_any (is_shape s.0.text s.1) (take k ys)))
       ∙ ap (λ b. b || list_any (is_shape s.0.text s.1) (take k ys)) (sym (grows s.0.text s.1))
 
   module _ (place : ℕ) (kind : SpecFaultKind) where
@@ -101,7 +83,7 @@ module _ {S : Type 0} where
   -- no names
   pub Meets-none : (met : HashSet (Bor (List ℕ) × ℕ) S) (old : Found) → Meets [] met met old old
   Meets-none met old = record {
-    met = λ x n. or_false (has_met met x n);
+    met = λ x n. sym (or-false (has_met met x n));
     noted = Gathers-none old (λ place kind h. let within : h.at < 0 = slice_get_within [] h.at h.item h.is in absurd (omega arith));
   }
 
@@ -110,7 +92,7 @@ module _ {S : Type 0} where
       → Meets (xs ++ ys) before after old new
   Meets-append {before} {between} {after} xs ys m n = record {
     met = λ x k. n.met x k ∙ ap (λ b. b || list_any (is_shape x k) ys) (m.met x k)
-        ∙ sym (or_assoc (has_met before x k) (list_any (is_shape x k) xs) (list_any (is_shape x k) ys)) ∙ ap (λ b. has_met before x k || b) (sym (list_any-append (is_shape x k) xs ys));
+        ∙ or_assoc (has_met before x k) (list_any (is_shape x k) xs) (list_any (is_shape x k) ys) ∙ ap (λ b. has_met before x k || b) (sym (list_any-append (is_shape x k) xs ys));
     noted = Gathers-same (Gathers-then m.noted n.noted) (λ place kind. (both_forth (has_met before) (has_met between) xs ys m.met place kind, both_back (has_met before) (has_met between) xs ys m.met place kind));
   }
 
@@ -123,7 +105,7 @@ module _ {T : Type 0} (shape : T → Shape) (IsLike : T → T → Type 0) (xs : 
   repeated_forth h =
       let b = mapped shape xs h.at h.item h.is in
       let earlier = any_at (is_shape h.item.0.text h.item.1) (take h.at (map shape xs)) h.has.0 in
-      let among = taken h.at (map shape xs) earlier.0 earlier.1 earlier.2 in
+      let among = among_first (map shape xs) h.at earlier.0 earlier.1 earlier.2 in
       let a = mapped shape xs earlier.0 earlier.1 among.1 in
       let like : is_shape (shape b.0).0.text (shape b.0).1 (shape a.0) ≡ true =
       ap (λ (s : Shape). is_shape s.0.text s.1 (shape a.0)) b.2 ∙ ap (is_shape h.item.0.text h.item.1) a.2 ∙ earlier.3 in
@@ -135,7 +117,7 @@ module _ {T : Type 0} (shape : T → Shape) (IsLike : T → T → Type 0) (xs : 
     item = shape b;
     is = map_of shape xs r.later b r.second;
     has = (
-      at_any (is_shape (shape b).0.text (shape b).1) (take r.later (map shape xs)) r.earlier (shape r.a) (take_of r.later (map shape xs) r.earlier (shape r.a) r.before (map_of shape xs r.earlier r.a r.first)) (told r.a b r.like),
+      at_any (is_shape (shape b).0.text (shape b).1) (take r.later (map shape xs)) r.earlier (shape r.a) (first_among (map shape xs) r.later r.earlier (shape r.a) r.before (map_of shape xs r.earlier r.a r.first)) (told r.a b r.like),
       at,
       of,
     );
@@ -156,7 +138,7 @@ module _ {S : Type 0} (before after : HashSet Key S) (name : Named) (count : ℕ
   is_it x n = λ i. bytes_eq x (texts i) && (n == counts i)
 
   met_already : list_any test before.keys ≡ true → (x : List ℕ) (n : ℕ) (b : Bool) → is_shape x n (name, count) ≡ b → has_met before x n ≡ (has_met before x n || (b || false))
-  met_already h x n false e = or_false (has_met before x n)
+  met_already h x n false e = sym (or-false (has_met before x n))
   met_already h x n true e =
       let parts = and_parts (bytes_eq x name.text) (n == count) e in
       let there : has_met before x n ≡ true =
@@ -185,7 +167,7 @@ module _ {S : Type 0} (before after : HashSet Key S) (name : Named) (count : ℕ
   one_back place kind zero item is h =
       let same : item ≡ (name, count) = sym (same_Some (name, count) item is) in
       let there : is_met_again (has_met before) ((name, count) ∷ []) 0 (name, count) ≡ true = ap (is_met_again (has_met before) ((name, count) ∷ []) 0) (sym same) ∙ h.0 in
-      (not_new (or_false (has_met before name.text count) ∙ there), h.1 ∙ ap (λ (s : Shape). s.0.place) same, h.2)
+      (not_new (sym (or-false (has_met before name.text count)) ∙ there), h.1 ∙ ap (λ (s : Shape). s.0.place) same, h.2)
   one_back place kind (suc at) item is h = cc
 
   -- a name that is put into the set, and noted where it isn't new

@@ -1,8 +1,8 @@
 -- What is gathered in turn, from nothing, from lists and from other names of the same faults.
-use Rattle.std.proofs.Common.{◌≡◌, ℕ, ◌+◌, ◌<◌, ◌≤◌, List, length, Option, Some, None, refl, sym, ap, subst, ◌∙◌, inl, inr, arith}
+use Rattle.std.proofs.Common.{◌≡◌, ℕ, ◌+◌, ◌<◌, ◌≤◌, List, length, get_or, Option, Some, None, refl, sym, ap, subst, ◌∙◌, inl, inr, arith}
 use Rattle.std.specs.Prelude.{◌⊎◌, ◌↔◌, slice_get, IsSomeAnd}
 use Rattle.std.proofs.Math.Nat.{eq-or-lt_of_le}
-use Rattle.std.proofs.lemmas.Option.{slice_get_within, same_Some}
+use Rattle.std.proofs.lemmas.Option.{slice_get_read, slice_get_within, same_Some}
 use Rattle.flow_syntax.specs.declared.fault.SpecFaultKind.{SpecFaultKind}
 use Rattle.earliest_fault.specs.Earliest.{Gathers, IsNoLater, FirstHave, SomeHas, NoFault, Either}
 
@@ -87,6 +87,10 @@ module _ {T : Type 0} {P : ℕ → T → ℕ → SpecFaultKind → Type 0} (xs :
 
         back : (place : ℕ) (kind : SpecFaultKind) → FirstHave P (n + 1) xs place kind → FirstHave P n xs place kind ⊎ P n x place kind
         back place kind h = by place kind h.at h.item (eq-or-lt_of_le (let b : h.at < n + 1 = h.before in omega arith)) h.is h.has
+
+    -- the same of the item that was read at a number
+    pub Gathers-read : (n : ℕ) (x : T) → n < length xs → x ≡ get_or xs n x → Gathers old mid (FirstHave P n xs) → Gathers mid new (P n x) → Gathers old new (FirstHave P (n + 1) xs)
+    Gathers-read n x within is = Gathers-next n x (slice_get_read xs (length xs) n x refl within is)
 
   module _ {old new : Found} where
     -- all of a list

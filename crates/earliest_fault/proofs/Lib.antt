@@ -1,2 +1,3 @@
+pub mod Firsts
 pub mod GathersLaws
 pub mod ListLaws

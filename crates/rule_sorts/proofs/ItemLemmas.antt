@@ -26,7 +26,7 @@ use Rattle.flow_syntax.proofs.Listed.{any_at, at_any}
 use Rattle.rule_sorts.specs.declared.head.Head.{Head}
 use Rattle.rule_sorts.specs.Faults.{IsMisnamed, IsMisnamedBy, IsMixedItem, IsMixedWith, MisnamedAs}
 use Rattle.rule_sorts.specs.Tables.{IsHeadOf, has_name, is_mixed_with, is_position}
-use Rattle.rule_sorts.proofs.Loops.{among_first, first_among}
+use Rattle.earliest_fault.proofs.Firsts.{among_first, first_among}
 use Rattle.spec_names.specs.Tables.{value_in}
 use Rattle.spec_names.proofs.TableLemmas.{is_some-position_from}
 

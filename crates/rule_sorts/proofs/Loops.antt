@@ -1,5 +1,5 @@
 -- What loops gather and collect.
-use Rattle.std.proofs.Common.{IsTrue, ◌≡◌, ℕ, zero, suc, ◌+◌, ◌<◌, Bool, ◌||◌, List, [], ◌∷◌, ◌++◌, length, map, take, get_or, Some, refl, sym, ap, subst, ◌∙◌, arith}
+use Rattle.std.proofs.Common.{IsTrue, ◌≡◌, ℕ, ◌+◌, ◌<◌, Bool, ◌||◌, List, [], ◌∷◌, ◌++◌, length, map, take, get_or, Some, refl, sym, ap, subst, ◌∙◌}
 use Rattle.std.specs.Prelude.{slice_get}
 use Rattle.std.specs.List.{list_any}
 use Rattle.std.specs.Option.{option_map}
@@ -13,11 +13,6 @@ use Rattle.spec_names.proofs.TableLemmas.{list_any-push}
 -- the item at an index that was read
 pub read_at : {X : Type 0} (xs : List X) (n : ℕ) (x : X) → n < length xs → x ≡ get_or xs n x → slice_get xs n ≡ Some x
 read_at xs n x within is = slice_get_read xs (length xs) n x refl within is
-
--- one item more of a list
-pub gathers_more : {T : Type 0} {P : ℕ → T → ℕ → SpecFaultKind → Type 0} (xs : List T) (n : ℕ) (x : T) {old mid new : Found} → n < length xs → x ≡ get_or xs n x → Gathers old mid (FirstHave P n xs) → Gathers mid new (P n x)
-    → Gathers old new (FirstHave P (n + 1) xs)
-gathers_more xs n x within is before here = Gathers-next xs n x (read_at xs n x within is) before here
 
 -- a test of a list that grows
 pub any_more : {T : Type 0} (test : T → Bool) (xs : List T) (n : ℕ) (x : T) (old new : Bool) → n < length xs → x ≡ get_or xs n x → old ≡ list_any test (take n xs) → new ≡ (old || test x) → new ≡ list_any test (take (n + 1) xs)
@@ -38,16 +33,3 @@ any_shown test f xs n x old new within is was made =
 -- a fault where another test, which is the same, passes
 pub gathers_if : {a b : Bool} {at : ℕ} {of : SpecFaultKind} {old new : Found} → a ≡ b → Gathers old new (IsFaultWhere (IsTrue a) at of) → Gathers old new (IsFaultWhere (IsTrue b) at of)
 gathers_if {at = at} {of = of} {old = old} {new = new} e g = subst (λ (c : Bool). Gathers old new (IsFaultWhere (IsTrue c) at of)) e g
-
--- an item among the first ones of a list
-pub among_first : {X : Type 0} (xs : List X) (k j : ℕ) (x : X) → slice_get (take k xs) j ≡ Some x → (j < k) × (slice_get xs j ≡ Some x)
-among_first xs zero j x e = absurd (omega (arith, slice_get_within (take zero xs) j x e))
-among_first [] (suc k) j x e = absurd (omega (arith, slice_get_within [] j x e))
-among_first (y ∷ ys) (suc k) zero x e = (omega arith, e)
-among_first (y ∷ ys) (suc k) (suc j) x e = let rest = among_first ys k j x e in (omega (arith, rest.0), rest.1)
-
-pub first_among : {X : Type 0} (xs : List X) (k j : ℕ) (x : X) → j < k → slice_get xs j ≡ Some x → slice_get (take k xs) j ≡ Some x
-first_among xs zero j x before e = absurd (omega arith)
-first_among [] (suc k) j x before e = absurd (omega (arith, slice_get_within [] j x e))
-first_among (y ∷ ys) (suc k) zero x before e = e
-first_among (y ∷ ys) (suc k) (suc j) x before e = first_among ys k j x (omega arith) e

@@ -23,7 +23,7 @@ use Rattle.flow_syntax.proofs.Listed.{any_at, at_any, at_in, in_at}
 use Rattle.rule_sorts.specs.declared.bindings.Binding.{Binding}
 use Rattle.rule_sorts.specs.Faults.{HasLoosePart, IsRepeatedIn, RebindsIn}
 use Rattle.rule_sorts.specs.Tables.{binder_by, is_constant_in, known_binder, known_bound, known_by}
-use Rattle.rule_sorts.proofs.Loops.{among_first, first_among}
+use Rattle.earliest_fault.proofs.Firsts.{among_first, first_among}
 use Rattle.spec_names.specs.declared.names.Names.{Names}
 use Rattle.spec_names.specs.Names.{is_called}
 use Rattle.spec_names.specs.Tables.{AreNames, lattice_of_element_in}

@@ -1,6 +1,7 @@
 -- Sets of names.
-use Rattle.std.proofs.Common.{◌≡◌, ℕ, Bool, true, false, ◌||◌, List, [], ◌∷◌, ◌++◌, bytes_eq, refl, ap, ◌∙◌}
+use Rattle.std.proofs.Common.{◌≡◌, ℕ, Bool, true, false, ◌||◌, List, [], ◌∷◌, ◌++◌, bytes_eq, refl, sym, ap, ◌∙◌}
 use Rattle.std.specs.Borrow.{Bor}
+use Rattle.std.proofs.Math.Bool.{or-false}
 use Rattle.std.specs.List.{list_any}
 use Rattle.std.specs.Prelude.{if◌then◌else◌}
 use Rattle.std.specs.Cmp.Lexicographic.{bytes_decides}
@@ -10,16 +11,12 @@ use Rattle.spec_names.proofs.TableLemmas.{list_any-push}
 has_present : (keys : List (Bor (List ℕ))) (name x : List ℕ) → list_any (λ (k : Bor (List ℕ)). bytes_eq name k.now) keys ≡ true → list_any (λ (k : Bor (List ℕ)). bytes_eq x k.now) keys ≡ (list_any (λ (k : Bor (List ℕ)). bytes_eq x k.now) keys || bytes_eq x name)
 has_present keys name x there = by (bytes_eq x name) refl
   where
-    or_false : (b : Bool) → b ≡ (b || false)
-    or_false true = refl
-    or_false false = refl
-
     or_true : (b : Bool) → b ≡ true → b ≡ (b || true)
     or_true true h = refl
     or_true false h = h
 
     by : (b : Bool) → bytes_eq x name ≡ b → list_any (λ (k : Bor (List ℕ)). bytes_eq x k.now) keys ≡ (list_any (λ (k : Bor (List ℕ)). bytes_eq x k.now) keys || b)
-    by false e = or_false _
+    by false e = sym (or-false _)
     by true e = or_true _ (ap (λ (y : List ℕ). list_any (λ (k : Bor (List ℕ)). bytes_eq y k.now) keys) ((bytes_decides x name).0 e) ∙ there)
 
 -- the names of a set after an insertion

@@ -10,7 +10,9 @@ use Rattle.flow_syntax.specs.declared.rule.Item.{Item}
 use Rattle.flow_syntax.specs.declared.rule.ItemKind.{ItemKind}
 use Rattle.flow_syntax.specs.declared.rule.ItemKind.TheVariants as item
 use Rattle.flow_syntax.specs.Binders.{Binder, Bound, binder, binder_of, binders_in, in_turn}
+use Rattle.flow_syntax.specs.declared.expr.ExprKind.TheOpen.{ExprKind-F}
 use Rattle.flow_syntax.specs.Control.{is_variable_in}
+use Rattle.flow_syntax.specs.Expressions.{ExprLayer, expr_layer}
 use Rattle.flow_syntax.specs.RuleFaults.{arguments}
 use Rattle.rule_sorts.specs.Items.{is_single, is_whole}
 use Rattle.flow_syntax.specs.Matching.{pattern_layer}
@@ -53,6 +55,14 @@ known_binder b = (b, false)
 -- what is known of the names of two lists of expressions in turn
 abbrev pub names_in_turn : List Expr → List Expr → List (Binder × Bool)
 names_in_turn keys values = map known_binder (in_turn (map binders_in keys) (map binders_in values))
+
+-- of the names of the keys and values of a map, in turn
+abbrev pub names_of_map_layer : ExprLayer → List (Binder × Bool)
+names_of_map_layer (ExprKind-F.MapOf keys values) = names_in_turn keys values
+names_of_map_layer layer = []
+
+abbrev pub names_of_map : Expr → List (Binder × Bool)
+names_of_map e = names_of_map_layer (expr_layer e)
 
 -- of the names of the expression with a number, if there is one
 abbrev pub names_at : List Expr → ℕ → List (Binder × Bool)

@@ -2,7 +2,7 @@
 ghost use Rattle.std.specs.Prelude.{◌≡◌, ◌++◌, ◌∷◌, [], OnOk, map};
 ghost use Rattle.std.specs.List.{flat_map};
 ghost use Rattle.flow_syntax.specs.Binders.{binder, binders_in, bound_in};
-ghost use Rattle.rule_sorts.specs.Tables.{known_binder, known_bound, known_by, names_at};
+ghost use Rattle.rule_sorts.specs.Tables.{known_binder, known_bound, known_by, names_at, names_of_map};
 
 use flow_syntax::{Expr, ExprKind, Pattern, PatternKind};
 use flow_term::Text;
@@ -44,29 +44,21 @@ pub fn push_variables<'a>(
     ensures { OnOk result (map known_by out.new.items ≡ map known_by out.old.items ++ map known_bound (bound_in pattern.now)) }
 {
     match &pattern.kind {
-        PatternKind::Wild | PatternKind::IntLit(_) | PatternKind::StrLit(_) => Ok(()),
-        PatternKind::Var(name) => {
-            push_binding(out, name, pattern.place, true)?;
-            Ok(())
-        }
+        PatternKind::Wild | PatternKind::IntLit(_) | PatternKind::StrLit(_) => {}
+        PatternKind::Var(name) => return push_binding(out, name, pattern.place, true),
         PatternKind::NameVar(name) | PatternKind::StrVar(name) | PatternKind::IntVar(name) => {
-            push_binding(out, name, pattern.place, false)?;
-            Ok(())
+            return push_binding(out, name, pattern.place, false);
         }
-        PatternKind::Apply(_, parts) => {
-            push_variables_of_each(parts.as_slice(), out)?;
-            Ok(())
-        }
+        PatternKind::Apply(_, parts) => return push_variables_of_each(parts.as_slice(), out),
         PatternKind::Tuple(parts) | PatternKind::Items(parts) => {
-            push_variables_of_each(parts.as_slice(), out)?;
-            Ok(())
+            return push_variables_of_each(parts.as_slice(), out);
         }
         PatternKind::Held(name, inner) => {
             push_binding(out, name, pattern.place, true)?;
-            push_variables(inner.get(), out)?;
-            Ok(())
+            return push_variables(inner.get(), out);
         }
     }
+    Ok(())
 }
 
 #[cycle(variables)]
@@ -96,79 +88,71 @@ pub fn push_binders<'a>(e: &'a Expr, out: &mut Vec<Binding<'a>>) -> Result<(), A
         | ExprKind::Top
         | ExprKind::Unreached
         | ExprKind::Ident(_)
-        | ExprKind::Read(_, _) => Ok(()),
-        ExprKind::Call(_, parts) => {
-            push_binders_of_each(parts.as_slice(), out)?;
-            Ok(())
-        }
-        ExprKind::SetOf(parts) => {
-            push_binders_of_each(parts.as_slice(), out)?;
-            Ok(())
-        }
-        ExprKind::MapOf(keys, values) => {
-            for at in 0..keys.len().max(values.len()) {
-                push_binders_at(keys.as_slice(), at, out)?;
-                push_binders_at(values.as_slice(), at, out)?;
-            }
-            Ok(())
-        }
+        | ExprKind::Read(_, _) => {}
+        ExprKind::Call(_, parts) => return push_binders_of_each(parts.as_slice(), out),
+        ExprKind::SetOf(parts) => return push_binders_of_each(parts.as_slice(), out),
+        ExprKind::MapOf(_, _) => return push_binders_of_map(e, out),
         ExprKind::MakeFlat(a)
         | ExprKind::Fst(a)
         | ExprKind::Snd(a)
         | ExprKind::Minus(a)
-        | ExprKind::Not(a) => {
-            push_binders(a.get(), out)?;
-            Ok(())
-        }
+        | ExprKind::Not(a) => return push_binders(a.get(), out),
         ExprKind::Both(a, b)
         | ExprKind::Look(a, b)
         | ExprKind::Member(a, b)
         | ExprKind::And(a, b)
         | ExprKind::Or(a, b) => {
             push_binders(a.get(), out)?;
-            push_binders(b.get(), out)?;
-            Ok(())
+            return push_binders(b.get(), out);
         }
         ExprKind::Set2(_, a, b) => {
             push_binders(a.get(), out)?;
-            push_binders(b.get(), out)?;
-            Ok(())
+            return push_binders(b.get(), out);
         }
         ExprKind::Arith(_, a, b) => {
             push_binders(a.get(), out)?;
-            push_binders(b.get(), out)?;
-            Ok(())
+            return push_binders(b.get(), out);
         }
         ExprKind::Compare(_, a, b) => {
             push_binders(a.get(), out)?;
-            push_binders(b.get(), out)?;
-            Ok(())
+            return push_binders(b.get(), out);
         }
         ExprKind::Update(a, b, c) | ExprKind::If(a, b, c) => {
             push_binders(a.get(), out)?;
             push_binders(b.get(), out)?;
-            push_binders(c.get(), out)?;
-            Ok(())
+            return push_binders(c.get(), out);
         }
         ExprKind::Bind(name, a, b) => {
             push_binding(out, name, e.place, false)?;
             push_binders(a.get(), out)?;
-            push_binders(b.get(), out)?;
-            Ok(())
+            return push_binders(b.get(), out);
         }
         ExprKind::Choose(element, name, set, condition) => {
             push_binders(element.get(), out)?;
             push_binding(out, name, e.place, false)?;
             push_binders(set.get(), out)?;
             match condition {
-                Some(condition) => {
-                    push_binders(condition.get(), out)?;
-                    Ok(())
-                }
-                None => Ok(()),
+                Some(condition) => return push_binders(condition.get(), out),
+                None => return Ok(()),
             }
         }
     }
+    Ok(())
+}
+
+/// Adds the names that the keys and values of a map bind, in turn; of another expression none.
+#[cycle(binders)]
+fn push_binders_of_map<'a>(e: &'a Expr, out: &mut Vec<Binding<'a>>) -> Result<(), AllocError>
+    ensures { OnOk result (map known_by out.new.items ≡ map known_by out.old.items ++ names_of_map e.now) }
+{
+    let ExprKind::MapOf(keys, values) = &e.kind else {
+        return Ok(());
+    };
+    for at in 0..keys.len().max(values.len()) {
+        push_binders_at(keys.as_slice(), at, out)?;
+        push_binders_at(values.as_slice(), at, out)?;
+    }
+    Ok(())
 }
 
 #[cycle(binders)]

@@ -1,6 +1,4 @@
-use Rattle.std.proofs.Common.{length, refl}
-use Rattle.std.proofs.lemmas.Option.{slice_get_read}
-use Rattle.earliest_fault.proofs.GathersLaws.{Gathers-all, Gathers-next, Gathers-start}
+use Rattle.earliest_fault.proofs.GathersLaws.{Gathers-all, Gathers-read, Gathers-start}
 use Rattle.decl_sorts.specs.Sections.{LatticeFaults}
 use Rattle.decl_sorts.proofs.section.note_lattices.Goals as goal
 
@@ -9,8 +7,7 @@ loop-number-init c = Gathers-start {P = LatticeFaults c.args.names.now} c.args.l
 
 pub loop-number-preserved : goal.loop-number-preserved
 loop-number-preserved c =
-    Gathers-next {P = LatticeFaults c.args.names.now} c.args.lattices.now c.loop-number.number c.index-lattices-number.result
-    (slice_get_read c.args.lattices.now (length c.args.lattices.now) c.loop-number.number c.index-lattices-number.result refl c.loop-number-test.true c.index-lattices-number.is) c.loop-number.invariant c.note_lattice.ensures
+    Gathers-read {P = LatticeFaults c.args.names.now} c.args.lattices.now c.loop-number.number c.index-lattices-number.result c.loop-number-test.true c.index-lattices-number.is c.loop-number.invariant c.note_lattice.ensures
 
 pub returns : goal.returns
 returns c = Gathers-all {P = LatticeFaults c.args.names.now} c.args.lattices.now c.loop-number.number c.loop-number-test.false c.loop-number.invariant

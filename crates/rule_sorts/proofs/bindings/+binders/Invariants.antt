@@ -4,8 +4,8 @@ use Rattle.flow_syntax.specs.Binders.{binders_in}
 use Rattle.rule_sorts.specs.Tables.{known_binder, known_by, names_in_turn}
 use Rattle.rule_sorts.proofs.bindings.+binders.Given as goal
 
-abbrev pub invariant-push_binders-loop-at : goal.invariant-push_binders-loop-at
-invariant-push_binders-loop-at l = map known_by l.out.items ++ names_in_turn (drop l.at l.keys) (drop l.at l.values) ≡ map known_by l.fn.out.items ++ names_in_turn l.keys l.values
+abbrev pub invariant-push_binders_of_map-loop-at : goal.invariant-push_binders_of_map-loop-at
+invariant-push_binders_of_map-loop-at l = map known_by l.out.items ++ names_in_turn (drop l.at l.keys) (drop l.at l.values) ≡ map known_by l.fn.out.items ++ names_in_turn l.keys l.values
 
 abbrev pub invariant-push_binders_of_each-loop-part : goal.invariant-push_binders_of_each-loop-part
 invariant-push_binders_of_each-loop-part l = map known_by l.out.items ≡ map known_by l.fn.out.items ++ map known_binder (flat_map binders_in (take l.part-index l.parts))

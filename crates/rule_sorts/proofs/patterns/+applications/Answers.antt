@@ -1,6 +1,5 @@
 use Rattle.std.proofs.Common.{arith}
-use Rattle.earliest_fault.proofs.GathersLaws.{Gathers-all, Gathers-start}
-use Rattle.rule_sorts.proofs.Loops.{gathers_more}
+use Rattle.earliest_fault.proofs.GathersLaws.{Gathers-all, Gathers-read, Gathers-start}
 use Rattle.rule_sorts.proofs.Misapplied.{of_apply, of_held, of_list}
 use Rattle.rule_sorts.proofs.patterns.+applications.Goals as goal
 
@@ -18,7 +17,7 @@ pub note_applications_of_each-loop-pattern-init : goal.note_applications_of_each
 note_applications_of_each-loop-pattern-init t c = Gathers-start c.args.patterns.now c.args.earliest.now
 
 pub note_applications_of_each-loop-pattern-preserved : goal.note_applications_of_each-loop-pattern-preserved
-note_applications_of_each-loop-pattern-preserved t c = gathers_more c.args.patterns.now c.loop-pattern.pattern-index c.pattern-item.result c.loop-pattern-test.true c.pattern-item.is c.loop-pattern.invariant c.note_applications.ensures
+note_applications_of_each-loop-pattern-preserved t c = Gathers-read c.args.patterns.now c.loop-pattern.pattern-index c.pattern-item.result c.loop-pattern-test.true c.pattern-item.is c.loop-pattern.invariant c.note_applications.ensures
 
 pub note_applications_of_each-returns : goal.note_applications_of_each-returns
 note_applications_of_each-returns t c = Gathers-all c.args.patterns.now _ (omega arith) c.loop-pattern.invariant

@@ -1,10 +1,9 @@
 use Rattle.std.proofs.Common.{arith}
-use Rattle.earliest_fault.proofs.GathersLaws.{Gathers-all, Gathers-then}
-use Rattle.rule_sorts.proofs.Loops.{gathers_more}
+use Rattle.earliest_fault.proofs.GathersLaws.{Gathers-all, Gathers-read, Gathers-then}
 use Rattle.rule_sorts.proofs.rules.check_control.Goals as goal
 
 pub loop-rule-preserved : goal.loop-rule-preserved
-loop-rule-preserved c = gathers_more c.args.rules.now c.loop-rule.rule-index c.rule-item.result c.loop-rule-test.true c.rule-item.is c.loop-rule.invariant
+loop-rule-preserved c = Gathers-read c.args.rules.now c.loop-rule.rule-index c.rule-item.result c.loop-rule-test.true c.rule-item.is c.loop-rule.invariant
     (Gathers-then c.check_pattern.ensures c.in_ok-check_rule_items.ensures)
 
 pub returns : goal.returns

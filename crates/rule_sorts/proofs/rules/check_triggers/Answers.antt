@@ -1,13 +1,12 @@
 use Rattle.std.proofs.Common.{arith, subst}
 use Rattle.earliest_fault.specs.Earliest.{Gathers}
-use Rattle.earliest_fault.proofs.GathersLaws.{Gathers-all}
+use Rattle.earliest_fault.proofs.GathersLaws.{Gathers-all, Gathers-read}
 use Rattle.flow_syntax.specs.declared.pattern.Pattern.{Pattern}
 use Rattle.rule_sorts.specs.Faults.{IsFaultyPattern}
-use Rattle.rule_sorts.proofs.Loops.{gathers_more}
 use Rattle.rule_sorts.proofs.rules.check_triggers.Goals as goal
 
 pub loop-rule-preserved : goal.loop-rule-preserved
-loop-rule-preserved c = gathers_more c.args.rules.now c.loop-rule.rule-index c.rule-item.result c.loop-rule-test.true c.rule-item.is c.loop-rule.invariant
+loop-rule-preserved c = Gathers-read c.args.rules.now c.loop-rule.rule-index c.rule-item.result c.loop-rule-test.true c.rule-item.is c.loop-rule.invariant
     (subst (λ (p : Pattern). Gathers c.loop-rule.earliest c.check_pattern.new.earliest (IsFaultyPattern c.args.spec.now p)) c.trigger_pattern.ensures c.check_pattern.ensures)
 
 pub returns : goal.returns

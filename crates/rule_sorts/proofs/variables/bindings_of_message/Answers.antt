@@ -1,9 +1,9 @@
 use Rattle.std.proofs.Common.{◌≡◌, ◌++◌, ◌∙◌, [], Option, ap, map, sym}
 use Rattle.std.specs.Option.{option_map_or}
+use Rattle.std.proofs.lemmas.List.{append-nil}
 use Rattle.flow_syntax.specs.declared.expr.Expr.{Expr}
 use Rattle.flow_syntax.specs.Binders.{binder_of, binders_in, bound_in}
 use Rattle.rule_sorts.specs.Tables.{known_binder, known_bound, known_by}
-use Rattle.rule_sorts.proofs.ExprBinders.{none_behind}
 use Rattle.rule_sorts.proofs.Repeats.{of_both, of_pattern}
 use Rattle.rule_sorts.proofs.variables.bindings_of_message.Goals as goal
 
@@ -19,5 +19,5 @@ pub returns-in-None : goal.returns-in-None
 returns-in-None c =
     let same : map known_by c.push_variables.new.out.items ≡ map known_bound (bound_in c.args.message.now.pattern) =
     c.in_ok-push_variables.ensures ∙ ap (λ xs. map known_by xs ++ map known_bound (bound_in c.args.message.now.pattern)) c.new-bindings.ensures.items in
-    of_pattern c.push_variables.new.out.items (bound_in c.args.message.now.pattern) same ∙ sym (none_behind (map binder_of (bound_in c.args.message.now.pattern)))
+    of_pattern c.push_variables.new.out.items (bound_in c.args.message.now.pattern) same ∙ sym (append-nil (map binder_of (bound_in c.args.message.now.pattern)))
     ∙ ap (λ (o : Option Expr). map binder_of (bound_in c.args.message.now.pattern) ++ option_map_or binders_in o []) (sym c.in-None.is)

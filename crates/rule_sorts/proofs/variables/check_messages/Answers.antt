@@ -1,10 +1,9 @@
 use Rattle.std.proofs.Common.{arith}
-use Rattle.earliest_fault.proofs.GathersLaws.{Gathers-all, Gathers-then}
-use Rattle.rule_sorts.proofs.Loops.{gathers_more}
+use Rattle.earliest_fault.proofs.GathersLaws.{Gathers-all, Gathers-read, Gathers-then}
 use Rattle.rule_sorts.proofs.variables.check_messages.Goals as goal
 
 pub loop-message-preserved : goal.loop-message-preserved
-loop-message-preserved c = gathers_more c.args.messages.now c.loop-message.message-index c.message-item.result c.loop-message-test.true c.message-item.is c.loop-message.invariant
+loop-message-preserved c = Gathers-read c.args.messages.now c.loop-message.message-index c.message-item.result c.loop-message-test.true c.message-item.is c.loop-message.invariant
     (Gathers-then c.in_ok-check_message_bindings.ensures c.in_ok-check_parts.ensures)
 
 pub returns : goal.returns

@@ -1,10 +1,9 @@
 use Rattle.std.proofs.Common.{arith}
-use Rattle.earliest_fault.proofs.GathersLaws.{Gathers-all}
-use Rattle.rule_sorts.proofs.Loops.{gathers_more}
+use Rattle.earliest_fault.proofs.GathersLaws.{Gathers-all, Gathers-read}
 use Rattle.rule_sorts.proofs.variables.note_loose_parts.Goals as goal
 
 pub loop-part-preserved : goal.loop-part-preserved
-loop-part-preserved c = gathers_more c.args.parts.now c.loop-part.part-index c.part-item.result c.loop-part-test.true c.part-item.is c.loop-part.invariant c.note_loose.ensures
+loop-part-preserved c = Gathers-read c.args.parts.now c.loop-part.part-index c.part-item.result c.loop-part-test.true c.part-item.is c.loop-part.invariant c.note_loose.ensures
 
 pub returns : goal.returns
 returns c = Gathers-all c.args.parts.now _ (omega arith) c.loop-part.invariant
