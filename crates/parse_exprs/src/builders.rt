@@ -16,46 +16,22 @@ use token_scan::{number_of, text_of};
 fn operation(kind: Kind, a: Boxed<Expr>, b: Boxed<Expr>) -> ExprKind
     ensures { result ≡ operation (code_of kind) a b }
 {
-    if kind.is(Kind::Or) {
-        return ExprKind::Or(a, b);
+    match kind {
+        Kind::Or => ExprKind::Or(a, b),
+        Kind::And => ExprKind::And(a, b),
+        Kind::Equal => ExprKind::Compare(CompareOp::Eq, a, b),
+        Kind::Unequal => ExprKind::Compare(CompareOp::Ne, a, b),
+        Kind::Below => ExprKind::Compare(CompareOp::Lt, a, b),
+        Kind::AtMost => ExprKind::Compare(CompareOp::Le, a, b),
+        Kind::In => ExprKind::Member(a, b),
+        Kind::Join => ExprKind::Set2(SetOp::Join, a, b),
+        Kind::Union => ExprKind::Set2(SetOp::Union, a, b),
+        Kind::Inter => ExprKind::Set2(SetOp::Inter, a, b),
+        Kind::Minus => ExprKind::Set2(SetOp::Minus, a, b),
+        Kind::Plus => ExprKind::Arith(ArithOp::Add, a, b),
+        Kind::Dash => ExprKind::Arith(ArithOp::Sub, a, b),
+        _ => ExprKind::Arith(ArithOp::Mul, a, b),
     }
-    if kind.is(Kind::And) {
-        return ExprKind::And(a, b);
-    }
-    if kind.is(Kind::Equal) {
-        return ExprKind::Compare(CompareOp::Eq, a, b);
-    }
-    if kind.is(Kind::Unequal) {
-        return ExprKind::Compare(CompareOp::Ne, a, b);
-    }
-    if kind.is(Kind::Below) {
-        return ExprKind::Compare(CompareOp::Lt, a, b);
-    }
-    if kind.is(Kind::AtMost) {
-        return ExprKind::Compare(CompareOp::Le, a, b);
-    }
-    if kind.is(Kind::In) {
-        return ExprKind::Member(a, b);
-    }
-    if kind.is(Kind::Join) {
-        return ExprKind::Set2(SetOp::Join, a, b);
-    }
-    if kind.is(Kind::Union) {
-        return ExprKind::Set2(SetOp::Union, a, b);
-    }
-    if kind.is(Kind::Inter) {
-        return ExprKind::Set2(SetOp::Inter, a, b);
-    }
-    if kind.is(Kind::Minus) {
-        return ExprKind::Set2(SetOp::Minus, a, b);
-    }
-    if kind.is(Kind::Plus) {
-        return ExprKind::Arith(ArithOp::Add, a, b);
-    }
-    if kind.is(Kind::Dash) {
-        return ExprKind::Arith(ArithOp::Sub, a, b);
-    }
-    ExprKind::Arith(ArithOp::Mul, a, b)
 }
 
 /// An operand with an operator and its right operand.
