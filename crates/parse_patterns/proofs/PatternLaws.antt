@@ -1,5 +1,5 @@
 -- How each pattern is read, branch by branch.
-use Rattle.std.proofs.Common.{◌≡◌, ℕ, suc, ◌+◌, ◌≤◌, ◌<◌, ◌||◌, Bool, true, false, List, [], ◌∷◌, ◌++◌, Some, None, Ok, Err, refl, sym, ap, ◌∙◌, add-one, inl, inr, map, length, arith, zero, eqb-true, w64, to_z, of_z}
+use Rattle.std.proofs.Common.{◌≡◌, ℕ, suc, ◌+◌, ◌≤◌, ◌<◌, ◌||◌, Bool, true, false, List, [], ◌∷◌, ◌++◌, Ok, Err, refl, sym, ap, ◌∙◌, add-one, map, arith, zero, eqb-true, w64, to_z, of_z}
 use Rattle.std.specs.Prelude.{ℤ, pos, negsuc, neg_ℤ, ◌-ℤ◌, ◌==◌, nat_le, FitsSigned}
 use Rattle.std.proofs.Math.IntN.{+ℤ_idl}
 use Rattle.std.proofs.lemmas.Int.{to_z-of_z, fits_signed_from_abs}
@@ -9,15 +9,14 @@ use Rattle.flow_syntax.specs.declared.token.Token.{Token}
 use Rattle.flow_syntax.specs.declared.token.TokenKind.{TokenKind}
 use Rattle.flow_syntax.specs.declared.token.TokenKind.TheVariants as tokens
 use Rattle.grammar.proofs.Composition.{ok_one}
-use Rattle.grammar.specs.Reading.{Outcome, ◌>>=◌, starts_with, read_optional}
-use Rattle.grammar.specs.Texts.{member, Part, Nested, Optional, Then, Many, Symbol}
-use Rattle.spec_grammar.proofs.Unrolled.{reads_at, one_at, one_of_at, bind_bind, bind_on, reads_more, many_turn, many_end}
-use Rattle.spec_grammar.specs.Choice.{begins}
+use Rattle.grammar.specs.Reading.{Outcome, ◌>>=◌, starts_with}
+use Rattle.grammar.specs.Texts.{member, Optional, Then, Symbol}
+use Rattle.spec_grammar.proofs.Unrolled.{reads_at, one_at, bind_bind, reads_more, many_turn}
 use Rattle.spec_grammar.specs.Kinds.{code_of, kind_of, kind_named, number_kind}
-use Rattle.spec_grammar.specs.Parts.{the, identifier, text_of, number_of, number_in, in_round, in_square, listed_in, inside}
-use Rattle.spec_grammar.specs.Patterns.{pattern_at, application_of, pattern_list, after_identifier, identifier_pattern, sorted_variable, negative_number, quoted_pattern, sorted_variable_of}
-use Rattle.spec_grammar.specs.Reading.{reads, reads_as, reads_part}
-use Rattle.spec_grammar.specs.Symbols.{Nonterminal, ValueOf, APattern, AFirmPattern, AnUnnamedPattern, PatternArguments}
+use Rattle.spec_grammar.specs.Parts.{identifier, text_of, number_of, number_in, listed_in}
+use Rattle.spec_grammar.specs.Patterns.{pattern_at, application_of, pattern_list, after_identifier, identifier_pattern, sorted_variable, negative_number, quoted_pattern}
+use Rattle.spec_grammar.specs.Reading.{reads, reads_as}
+use Rattle.spec_grammar.specs.Symbols.{APattern, AFirmPattern, AnUnnamedPattern, PatternArguments}
 use Rattle.spec_grammar.specs.declared.kind.Kind.{Kind}
 use Rattle.spec_grammar.specs.declared.kind.Kind.TheVariants as kinds
 use Rattle.parse_patterns.specs.Parts.{behind, bracketed, placed, quoted, second, sorted_of, negative_of, tuple_at, items_at}

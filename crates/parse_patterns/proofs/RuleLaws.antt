@@ -1,5 +1,5 @@
 -- How control rules and triggers are read, branch by branch.
-use Rattle.std.proofs.Common.{◌≡◌, ℕ, ◌≤◌, true, false, List, [], ◌∷◌, ◌++◌, Ok, refl, ◌∙◌}
+use Rattle.std.proofs.Common.{◌≡◌, ℕ, ◌≤◌, true, false, List, [], ◌∷◌, ◌++◌, refl, ◌∙◌}
 use Rattle.flow_syntax.specs.declared.rule.Chain.{Chain}
 use Rattle.flow_syntax.specs.declared.rule.Item.{Item}
 use Rattle.flow_syntax.specs.declared.token.Token.{Token}

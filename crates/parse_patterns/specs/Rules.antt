@@ -1,6 +1,5 @@
 -- What parts of control rules and triggers make.
-use Rattle.std.specs.Prelude.{ℕ, List, [], ◌∷◌, true, false, Option, Some, None, is_some}
-use Rattle.flow_syntax.specs.declared.pattern.Pattern.{Pattern}
+use Rattle.std.specs.Prelude.{ℕ, List, [], ◌∷◌, false, Option, Some, None, is_some}
 use Rattle.flow_syntax.specs.declared.property.Trigger.{Trigger}
 use Rattle.flow_syntax.specs.declared.property.Trigger.TheVariants as triggers
 use Rattle.flow_syntax.specs.declared.rule.Chain.{Chain}

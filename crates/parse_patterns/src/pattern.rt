@@ -148,10 +148,8 @@ fn read_unnamed_pattern<'a>(alloc: Global, cursor: Cursor<'a>, nesting: u64) -> 
     }
     if cursor.begins(Kind::Number) {
         let (token, rest) = cursor.token(Kind::Number, nesting)?;
-        return Ok((
-            pattern_at(token, PatternKind::IntLit(number_of(token))),
-            rest,
-        ));
+        let number = PatternKind::IntLit(number_of(token));
+        return Ok((pattern_at(token, number), rest));
     }
     if cursor.begins(Kind::Dash) {
         return read_negative_number(cursor, nesting);
@@ -160,23 +158,11 @@ fn read_unnamed_pattern<'a>(alloc: Global, cursor: Cursor<'a>, nesting: u64) -> 
         return read_quoted_pattern(alloc, cursor, nesting);
     }
     if cursor.begins(Kind::OpenRound) {
-        let ((place, parts), rest) = read_bracketed(
-            alloc,
-            cursor,
-            nesting,
-            Kind::OpenRound,
-            Kind::CloseRound,
-        )?;
+        let ((place, parts), rest) = read_round(alloc, cursor, nesting)?;
         let kind = PatternKind::Tuple(parts);
         return Ok((Pattern { place, kind }, rest));
     }
-    let ((place, items), rest) = read_bracketed(
-        alloc,
-        cursor,
-        nesting,
-        Kind::OpenSquare,
-        Kind::CloseSquare,
-    )?;
+    let ((place, items), rest) = read_square(alloc, cursor, nesting)?;
     let kind = PatternKind::Items(items);
     Ok((Pattern { place, kind }, rest))
 }
@@ -241,6 +227,28 @@ fn read_arguments<'a>(alloc: Global, cursor: Cursor<'a>, nesting: u64) -> Read<'
         Kind::CloseRound,
     )?;
     Ok((parts, rest))
+}
+
+/// Patterns in parentheses.
+#[cycle(pattern)]
+fn read_round<'a>(alloc: Global, cursor: Cursor<'a>, nesting: u64) -> Read<'a, (u64, List<Pattern>)>
+    requires { nesting ≤ 256 }
+    ensures { Gives (λ x. (x.0, x.1.tokens.now)) result (reads_as nesting (bracketed kinds.OpenRound kinds.CloseRound) placed cursor.entry.tokens.now) }
+{
+    read_bracketed(alloc, cursor, nesting, Kind::OpenRound, Kind::CloseRound)
+}
+
+/// Patterns in square brackets.
+#[cycle(pattern)]
+fn read_square<'a>(
+    alloc: Global,
+    cursor: Cursor<'a>,
+    nesting: u64,
+) -> Read<'a, (u64, List<Pattern>)>
+    requires { nesting ≤ 256 }
+    ensures { Gives (λ x. (x.0, x.1.tokens.now)) result (reads_as nesting (bracketed kinds.OpenSquare kinds.CloseSquare) placed cursor.entry.tokens.now) }
+{
+    read_bracketed(alloc, cursor, nesting, Kind::OpenSquare, Kind::CloseSquare)
 }
 
 /// An opening token, patterns with commas between them, and the closing token.

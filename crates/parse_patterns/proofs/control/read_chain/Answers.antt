@@ -1,4 +1,4 @@
-use Rattle.std.proofs.Common.{arith, sym}
+use Rattle.std.proofs.Common.{arith}
 use Rattle.spec_grammar.specs.Symbols.{AChain}
 use Rattle.token_scan.proofs.GivesLemmas.{deep_fails}
 use Rattle.parse_patterns.proofs.RuleLaws.{chain_at}

@@ -1,4 +1,4 @@
-use Rattle.std.proofs.Common.{◌≡◌, ℕ, ◌+◌, ◌++◌, ◌∷◌, [], arith, refl, rules, sym, ap, ◌∙◌, Err, pos, ◌<◌}
+use Rattle.std.proofs.Common.{◌≡◌, ◌+◌, ◌∷◌, [], arith, refl, sym, ◌∙◌, pos, ◌<◌}
 use Rattle.std.proofs.lemmas.Result.{err_from_is_err_and}
 use Rattle.spec_grammar.proofs.Unrolled.{one_at, one_take, reads_take}
 use Rattle.spec_grammar.specs.Kinds.{code_of}

@@ -1,4 +1,4 @@
-use Rattle.std.proofs.Common.{◌≤◌, ◌++◌, ◌<◌, ◌≡◌, ℕ, ◌+◌, ◌-◌, ◌*◌, length, Ok}
+use Rattle.std.proofs.Common.{◌≡◌, ◌+◌, ◌-◌, ◌*◌, length}
 use Rattle.spec_grammar.proofs.Unrolled.{reads_more}
 use Rattle.spec_grammar.specs.Symbols.{APattern}
 use Rattle.spec_grammar.specs.declared.kind.Kind.TheVariants as kinds
@@ -25,6 +25,12 @@ decreases-read_quoted_pattern l = 9 * (257 - l.nesting) + 3
 
 abbrev pub decreases-read_arguments : goal.decreases-read_arguments
 decreases-read_arguments l = 9 * (257 - l.nesting) + 2
+
+abbrev pub decreases-read_round : goal.decreases-read_round
+decreases-read_round l = 9 * (257 - l.nesting) + 2
+
+abbrev pub decreases-read_square : goal.decreases-read_square
+decreases-read_square l = 9 * (257 - l.nesting) + 2
 
 abbrev pub decreases-read_bracketed : goal.decreases-read_bracketed
 decreases-read_bracketed l = 9 * (257 - l.nesting) + 1

@@ -1,4 +1,4 @@
-use Rattle.std.proofs.Common.{◌≡◌, ℕ, ◌+◌, ◌<◌, arith, refl, sym, ap, ◌∙◌, pos}
+use Rattle.std.proofs.Common.{◌≡◌, ◌+◌, ◌<◌, refl, ◌∙◌, pos}
 use Rattle.spec_grammar.specs.declared.kind.Kind.TheVariants as kinds
 use Rattle.parse_patterns.proofs.PatternLaws.{one_kind, number_is_positive, number_back, negated_fits, negated_back, negative_at}
 use Rattle.parse_patterns.proofs.pattern.read_negative_number.Goals as goal
