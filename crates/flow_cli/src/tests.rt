@@ -153,7 +153,8 @@ fn writes_the_graph_of_a_tree(rt: HostRuntime) -> Result<(), Fail> {
 #[test]
 fn a_statement_that_stops_has_no_way_on(rt: HostRuntime) -> Result<(), Fail> {
     let tree = "Prog([If([Stop(),Set(\"b\",1)],[Set(\"a\",1)]),Use(\"a\")])";
-    let written = "nodes 6\n/:start\n/:end\n/0/0/0/0:node\n/0/0/0/1:node\n/0/0/1/0:node\n/0/1:node\nedges 5\n/:start -> /0/0/0/0:node\n/:start -> /0/0/1/0:node\n/0/0/0/1:node -> /0/1:node\n/0/0/1/0:node -> /0/1:node\n/0/1:node -> /:end\n";
+    let written =
+        "nodes 6\n/:start\n/:end\n/0/0/0/0:node\n/0/0/0/1:node\n/0/0/1/0:node\n/0/1:node\nedges 5\n/:start -> /0/0/0/0:node\n/:start -> /0/0/1/0:node\n/0/0/0/1:node -> /0/1:node\n/0/0/1/0:node -> /0/1:node\n/0/1:node -> /:end\n";
     let (status, bytes) = graph_of(rt.alloc(), INITIALISED, tree.as_bytes())?;
     assert_eq!(rt; status, Status::Done);
     assert_eq!(rt; bytes.as_slice(), written.as_bytes());
@@ -349,7 +350,10 @@ fn tells_each_fault_of_a_specification_at_its_place(rt: HostRuntime) -> Result<(
             "module m control properties p: MaySet(name) rules p(_ -> next) = p(prev)",
             "Unbound at 65",
         ),
-        ("module m control properties p: MaySet(name) rules p(_.start) = p(prev)", "Unbound at 63"),
+        (
+            "module m control properties p: MaySet(name) rules p(_.start) = p(prev)",
+            "Unbound at 63",
+        ),
         (
             "module m control properties p: MaySet(name) rules p(prev -> _) = {} p(_ -> next) = {}",
             "MixedDirection at 68",
@@ -358,8 +362,14 @@ fn tells_each_fault_of_a_specification_at_its_place(rt: HostRuntime) -> Result<(
             "module m control F(x) = entry -> x -> entry -> exit",
             "WrongEnd at 38",
         ),
-        ("module m control F(x) = start -> x -> exit", "WrongEnd at 24"),
-        ("module m control F(x) = entry -> exit -> x", "WrongEnd at 33"),
+        (
+            "module m control F(x) = start -> x -> exit",
+            "WrongEnd at 24",
+        ),
+        (
+            "module m control F(x) = entry -> exit -> x",
+            "WrongEnd at 33",
+        ),
         (
             "module m control F(x) = entry -> x -> node x -> exit",
             "MixedItem at 38",
@@ -540,7 +550,10 @@ fn a_file_behind_a_refused_one_is_not_read(rt: HostRuntime) -> Result<(), Fail> 
     let mut folder = folder_of(alloc, b"module m ?", b"Prog([])", 2)?;
     let mut sink = MemorySink::new(alloc, 1 << 10, Vec::new(alloc))?;
     assert_eq!(rt; run(alloc, &words, &mut folder, &mut sink), Status::Refused);
-    assert_eq!(rt; sink.written(), b"specification: BadCharacter at 9\n".as_slice());
+    assert_eq!(rt;
+        sink.written(),
+        b"specification: BadCharacter at 9\n".as_slice()
+    );
     Ok(())
 }
 
