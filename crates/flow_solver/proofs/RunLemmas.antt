@@ -56,8 +56,8 @@ module _ {V : Type 0} (s : ConstraintSystem ℕ ℕ V) (law : IsLawful numbers s
   counted_visit old mid new v b m e run visit counted = (run.0 + visits_of v, run_visit run.0 old mid new v run.1 visit, omega (arith, run.2))
 
   -- a visit that memory refused ends a run
-  pub refused_visit : (old mid new : State ℕ) (n b m e : ℕ) → IsRun s n old mid → m ≡ b + n → IsAsBefore mid new → (m ≤ e) × (e ≤ m + 1) → RefusedRun s old new b e
-  refused_visit old mid new n b m e run counted before more = (n, (mid, run, before), omega (arith, more.0), omega (arith, more.1))
+  pub refused_visit : {k : ℕ} (old mid new : State ℕ) (n b m e : ℕ) → IsRun s n old mid → m ≡ b + n → IsAsBefore k mid new → (m ≤ e) × (e ≤ m + 1) → RefusedRun s old new b e
+  refused_visit {k = k} old mid new n b m e run counted before more = (n, (mid, run, k, before), omega (arith, more.0), omega (arith, more.1))
 
   pub early_no_memory : (r : Result (Unit {0}) SettleRefusal) (old new : State ℕ) (b e limit : ℕ) → IsErrAnd r (λ refusal. refusal ≡ NoMemory) → RefusedRun s old new b e → IfErr r (IsEarly s old new b e limit)
   early_no_memory (Ok u) old new b e limit is run = absurd is

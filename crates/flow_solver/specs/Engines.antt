@@ -5,9 +5,10 @@ use Rattle.index_lists.specs.Queues.{Queue}
 use Rattle.constraint_theory.specs.Systems.{ConstraintSystem, IsKey, IsUnknown, numbers}
 use Rattle.constraint_theory.specs.Machine.{State, IsSound, replay}
 
--- a system and the state of the machine that solves it
-pub record Solving (S : Type 0) : Type 0 where
+-- a system, what chooses among the keys that wait, and the state of the machine that solves the system
+pub record Solving (S P : Type 0) : Type 0 where
   pub system : S
+  pub pick : P
   pub state : State ℕ
 
 -- a system and the steps that were made, each the key whose value was joined to its target's

@@ -1,9 +1,9 @@
 //! The engine.
-ghost use Rattle.std.specs.Prelude.{◌≡◌, ◌≤◌, ◌+◌, [], ℕ, List, length, false, IfOk, OnOk, OnErr, Some, None, Err};
+ghost use Rattle.std.specs.Prelude.{◌≡◌, ◌<◌, ◌≤◌, ◌+◌, [], ℕ, List, length, slice_index, false, IfOk, OnOk, OnErr, Some, None, Err};
 ghost use Rattle.std.specs.Option.{option_copied};
 ghost use Rattle.list_theory.specs.Lists.{has};
 ghost use Rattle.constraint_theory.specs.Systems.{IsLeast, IsUnknown, bound, numbers};
-ghost use Rattle.constraint_theory.specs.Machine.{IsClosed, IsSound, Legal, begin, bound_within, replay};
+ghost use Rattle.constraint_theory.specs.Machine.{IsClosed, IsSound, Legal, begin, bound_within, replay, visited};
 ghost use Rattle.flow_solver.specs.Engines.{trace_of};
 ghost use Rattle.flow_solver.specs.Runs.{IsAsBefore, IsSettled, IsSpent, IsVisit, RefusedRun, visits_of};
 
@@ -35,9 +35,9 @@ pub struct Engine<S: System, P: Pick> {
 impl<S: System, P: Pick> Model for Engine<S, P> {
     ghost use Rattle.flow_solver.specs.Engines.{IsEngine, Solving, state_of};
 
-    ghost Value = { Solving S };
+    ghost Value = { Solving S P };
 
-    ghost view = { λ e. record { system = e.progress.system; state = state_of e.progress.steps e.waiting } };
+    ghost view = { λ e. record { system = e.progress.system; pick = e.pick; state = state_of e.progress.steps e.waiting } };
 
     ghost invariant = { λ e. IsEngine (S.meaning e.progress.system) e.progress.steps e.waiting };
 }
@@ -46,6 +46,7 @@ impl<S: System, P: Pick> Engine<S, P> {
     /// All values are bottom, there are no steps, and all constraints wait in the order of keys.
     pub fn new(alloc: Global, system: S, pick: P) -> Result<Engine<S, P>, AllocError>
         ensures system { IfOk result (λ e. e.system ≡ system) }
+        ensures pick { IfOk result (λ e. e.pick ≡ pick) }
         ensures begin { IfOk result (λ e. e.state ≡ begin numbers (S.meaning system)) }
         ensures bounded { IfOk result (λ e. (ks : List ℕ) → Legal numbers (S.meaning system) e.state ks
             → length ks ≤ bound numbers (S.meaning system)) }
@@ -61,17 +62,21 @@ impl<S: System, P: Pick> Engine<S, P> {
         })
     }
 
-    /// Takes out one waiting constraint, which the pick chooses, and evaluates it.
+    /// Takes out the waiting constraint at the place that the pick chooses, and evaluates it.
     ///
     /// `Idle` comes exactly where nothing waits, and `Held` where the constraint's value is below its target's. `Raised`
     /// joins it to the target's, appends a step, and makes the constraints that read the target wait, in the order of
     /// keys, at the end. Each but `Idle` counts as one step.
     ///
-    /// Where memory runs out, all is as before but the constraint's place in the queue.
+    /// Where memory runs out, all is as before but that the constraint waits last now.
     pub fn visit<C: Ledger>(&mut self, steps: &mut Steps<C>) -> Result<Visited, AllocError>
         ensures system { self.new.system ≡ self.old.system }
         ensures visit { IfOk result (λ v. IsVisit (S.meaning self.old.system) self.old.state v self.new.state) }
-        ensures err { OnErr result (IsAsBefore self.old.state self.new.state) }
+        ensures picked { let queue = self.old.state.waiting in 0 < length queue
+            → IfOk result (λ _. self.new.state ≡ visited numbers (S.meaning self.old.system) self.old.state
+            (slice_index queue (P.chosen self.old.pick queue))) }
+        ensures err { let queue = self.old.state.waiting in
+            OnErr result (IsAsBefore (slice_index queue (P.chosen self.old.pick queue)) self.old.state self.new.state) }
         ensures steps { IfOk result (λ v. steps.new ≡ steps.old + visits_of v) }
         ensures steps_err { OnErr result ((steps.old ≤ steps.new) × (steps.new ≤ steps.old + 1)) }
         ensures sound { IsSound numbers (S.meaning self.new.system) self.new.state }
