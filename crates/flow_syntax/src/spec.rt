@@ -1,4 +1,4 @@
-ghost use Rattle.std.specs.Prelude.{◌≡◌, map};
+ghost use Rattle.std.specs.Prelude.{◌≡◌, IfOk, map};
 ghost use Rattle.flow_syntax.specs.Accepted.{HasAppliedHeads, HasDistinctExpressions, HasEvenMaps, HasIdentifiers, HasSmallFunctions};
 ghost use Rattle.flow_syntax.specs.Control.{HasLongChains};
 ghost use Rattle.flow_syntax.specs.DeclFaults.{directions_of};
@@ -15,6 +15,7 @@ use crate::signature::Signature;
 use crate::tables::{EnumDecl, FunctionDecl, TableDecl};
 use crate::types::ExprType;
 use flow_term::{List, Text};
+use std::alloc::AllocError;
 
 /// A name, with the offset of its first byte.
 #[derive(Debug, Drop)]
@@ -23,6 +24,18 @@ pub struct Named {
     pub text: Text,
     /// The offset of its first byte in the text of the specification.
     pub place: u64,
+}
+
+impl Named {
+    /// An equal name at the same place. Fails only for want of memory.
+    pub fn duplicate(&self) -> Result<Named, AllocError>
+        ensures { IfOk result (λ named. named ≡ self.now) }
+    {
+        Ok(Named {
+            text: self.text.duplicate()?,
+            place: self.place,
+        })
+    }
 }
 
 /// A specification: the name of a module, and its sections. A section that is left out is empty.

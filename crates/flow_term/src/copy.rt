@@ -4,6 +4,24 @@ use crate::list::List;
 use crate::term::{Kind, Term};
 use std::alloc::{AllocError, Global};
 
+impl Term {
+    /// An equal term, as `copy_term` makes it. Fails only for want of memory.
+    pub fn duplicate(&self, alloc: Global) -> Result<Term, AllocError>
+        ensures { IfOk result (λ term. term ≡ self.now) }
+    {
+        copy_term(alloc, self)
+    }
+}
+
+impl Kind {
+    /// An equal one. Fails only for want of memory.
+    pub fn duplicate(&self, alloc: Global) -> Result<Kind, AllocError>
+        ensures { IfOk result (λ kind. kind ≡ self.now) }
+    {
+        copy_kind(alloc, self)
+    }
+}
+
 /// An equal term. Fails only for want of memory.
 #[cycle(copy_term)]
 pub fn copy_term(alloc: Global, term: &Term) -> Result<Term, AllocError>

@@ -3,9 +3,9 @@ ghost use Rattle.std.specs.declared.cmp.Ordering.TheVariants.{Equal};
 ghost use Rattle.flow_term.specs.Elements.{elem_cmp};
 ghost use Rattle.flow_term.specs.Orders.{node_cmp, edge_cmp};
 
-use crate::boxed::Boxed;
 use crate::elem::Elem;
 use crate::graph::{Edge, Node};
+use crate::list::List;
 use std::alloc::{AllocError, Global};
 
 /// What sets and maps are made of: ordered values with copies, of which no two different ones tie.
@@ -34,17 +34,7 @@ impl Element for Elem {
     ghost use Rattle.flow_term.specs.ElementsLaws.{same_elements};
 
     fn copy(&self, alloc: Global) -> Result<Elem, AllocError> {
-        Ok(match self {
-            Elem::Name(text) => Elem::Name(text.duplicate()?),
-            Elem::Str(text) => Elem::Str(text.duplicate()?),
-            Elem::Pos(path) => Elem::Pos(path.duplicate()?),
-            Elem::Item(text) => Elem::Item(text.duplicate()?),
-            Elem::Int(number) => Elem::Int(*number),
-            Elem::Pair(left, right) => Elem::Pair(
-                Boxed::new(alloc, left.get().copy(alloc)?)?,
-                Boxed::new(alloc, right.get().copy(alloc)?)?,
-            ),
-        })
+        self.duplicate(alloc)
     }
 
     ghost exact = { same_elements };
@@ -68,6 +58,25 @@ impl Element for Edge {
     }
 
     ghost exact = { same_edges };
+}
+
+impl<E: Element> List<E> {
+    /// An equal list. Fails only for want of memory.
+    pub fn duplicate(&self, alloc: Global) -> Result<List<E>, AllocError>
+        ensures { IfOk result (λ copy. copy ≡ self.now) }
+    {
+        copy_items(alloc, self.as_slice())
+    }
+}
+
+fn copy_items<E: Element>(alloc: Global, items: &[E]) -> Result<List<E>, AllocError>
+    ensures { IfOk result (λ copy. copy ≡ items.now) }
+{
+    let mut copy = List::new(alloc);
+    for item in items {
+        copy.push(item.copy(alloc)?)?;
+    }
+    Ok(copy)
 }
 
 /// Elements are ordered by kind: names, strings, positions, items, integers, pairs. Within a kind texts go by their bytes,

@@ -3,7 +3,6 @@ ghost use Rattle.std.specs.Prelude.{◌≡◌, IfOk};
 
 use crate::boxed::Boxed;
 use crate::elem::Elem;
-use crate::element::Element;
 use crate::graph::Unknown;
 use crate::list::List;
 use crate::text::Text;
@@ -99,7 +98,7 @@ impl Bound {
     {
         Ok(Bound {
             name: self.name.duplicate()?,
-            value: self.value.copy(alloc)?,
+            value: self.value.duplicate(alloc)?,
         })
     }
 }
@@ -129,10 +128,10 @@ fn copy_value(alloc: Global, value: &Value) -> Result<Value, AllocError>
 {
     match value {
         Value::Unreached => Ok(Value::Unreached),
-        Value::Set(elems) => Ok(Value::Set(copy_elems(alloc, elems.as_slice())?)),
+        Value::Set(elems) => Ok(Value::Set(elems.duplicate(alloc)?)),
         Value::Bottom => Ok(Value::Bottom),
         Value::Top => Ok(Value::Top),
-        Value::Flat(elem) => Ok(Value::Flat(elem.copy(alloc)?)),
+        Value::Flat(elem) => Ok(Value::Flat(elem.duplicate(alloc)?)),
         Value::Map(entries) => Ok(Value::Map(copy_entries(alloc, entries.as_slice())?)),
         Value::Pair(left, right) => Ok(Value::Pair(
             Boxed::new(alloc, copy_value(alloc, left.get())?)?,
@@ -146,7 +145,7 @@ fn copy_value(alloc: Global, value: &Value) -> Result<Value, AllocError>
 fn copy_entry(alloc: Global, entry: &Entry) -> Result<Entry, AllocError>
     ensures { IfOk result (λ copy. copy ≡ entry.now) }
 {
-    let key = entry.key.copy(alloc)?;
+    let key = entry.key.duplicate(alloc)?;
     let value = copy_value(alloc, &entry.value)?;
     Ok(Entry { key, value })
 }
@@ -158,16 +157,6 @@ fn copy_entries(alloc: Global, entries: &[Entry]) -> Result<List<Entry>, AllocEr
     let mut copy = List::new(alloc);
     for entry in entries {
         copy.push(copy_entry(alloc, entry)?)?;
-    }
-    Ok(copy)
-}
-
-fn copy_elems(alloc: Global, elems: &[Elem]) -> Result<List<Elem>, AllocError>
-    ensures { IfOk result (λ copy. copy ≡ elems.now) }
-{
-    let mut copy = List::new(alloc);
-    for elem in elems {
-        copy.push(elem.copy(alloc)?)?;
     }
     Ok(copy)
 }

@@ -4,29 +4,9 @@ ghost use Rattle.flow_syntax.specs.Lattices.{NamesNoTable};
 ghost use Rattle.lattice_any.specs.Types.{type_of};
 
 use crate::any::AnyL;
-use flow_syntax::{ElemSort, LatticeType, Named};
+use flow_syntax::LatticeType;
 use flow_term::Boxed;
 use std::alloc::{AllocError, Global};
-
-/// An equal sort.
-fn copy_sort(alloc: Global, sort: &ElemSort) -> Result<ElemSort, AllocError>
-    ensures { IfOk result (λ copy. copy ≡ sort.now) }
-{
-    match sort {
-        ElemSort::Name => Ok(ElemSort::Name),
-        ElemSort::Pos => Ok(ElemSort::Pos),
-        ElemSort::Str => Ok(ElemSort::Str),
-        ElemSort::Int => Ok(ElemSort::Int),
-        ElemSort::Enum(name) => Ok(ElemSort::Enum(Named {
-            text: name.text.duplicate()?,
-            place: name.place,
-        })),
-        ElemSort::Pair(first, second) => Ok(ElemSort::Pair(
-            Boxed::new(alloc, copy_sort(alloc, first.get())?)?,
-            Boxed::new(alloc, copy_sort(alloc, second.get())?)?,
-        )),
-    }
-}
 
 /// The lattice of a type that names no table.
 pub(crate) fn build_lattice(alloc: Global, of: &LatticeType) -> Result<AnyL, AllocError>
@@ -34,11 +14,11 @@ pub(crate) fn build_lattice(alloc: Global, of: &LatticeType) -> Result<AnyL, All
     ensures { IfOk result (λ lattice. type_of lattice ≡ of.now) }
 {
     match of {
-        LatticeType::May(sort) => Ok(AnyL::May(copy_sort(alloc, sort)?)),
-        LatticeType::Must(sort) => Ok(AnyL::Must(copy_sort(alloc, sort)?)),
-        LatticeType::Flat(sort) => Ok(AnyL::Flat(copy_sort(alloc, sort)?)),
+        LatticeType::May(sort) => Ok(AnyL::May(sort.duplicate(alloc)?)),
+        LatticeType::Must(sort) => Ok(AnyL::Must(sort.duplicate(alloc)?)),
+        LatticeType::Flat(sort) => Ok(AnyL::Flat(sort.duplicate(alloc)?)),
         LatticeType::Map(sort, values) => {
-            let keys = copy_sort(alloc, sort)?;
+            let keys = sort.duplicate(alloc)?;
             let inner = build_lattice(alloc, values.get())?;
             Ok(AnyL::Map(keys, Boxed::new(alloc, inner)?))
         }
@@ -56,11 +36,11 @@ pub(crate) fn copy_lattice(alloc: Global, lattice: &AnyL) -> Result<AnyL, AllocE
     ensures { IfOk result (λ copy. copy ≡ lattice.now) }
 {
     match lattice {
-        AnyL::May(sort) => Ok(AnyL::May(copy_sort(alloc, sort)?)),
-        AnyL::Must(sort) => Ok(AnyL::Must(copy_sort(alloc, sort)?)),
-        AnyL::Flat(sort) => Ok(AnyL::Flat(copy_sort(alloc, sort)?)),
+        AnyL::May(sort) => Ok(AnyL::May(sort.duplicate(alloc)?)),
+        AnyL::Must(sort) => Ok(AnyL::Must(sort.duplicate(alloc)?)),
+        AnyL::Flat(sort) => Ok(AnyL::Flat(sort.duplicate(alloc)?)),
         AnyL::Map(sort, values) => {
-            let keys = copy_sort(alloc, sort)?;
+            let keys = sort.duplicate(alloc)?;
             let inner = copy_lattice(alloc, values.get())?;
             Ok(AnyL::Map(keys, Boxed::new(alloc, inner)?))
         }
