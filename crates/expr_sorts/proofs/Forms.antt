@@ -15,7 +15,7 @@ use Rattle.flow_syntax.specs.Types.{Sort, truth, any_flat, any_set}
 use Rattle.flow_syntax.specs.Scopes.{Scope, with_variable}
 use Rattle.flow_syntax.specs.Telling.{Telling, is as told_as, untold, told, told_parts, form_telling, set_sort, flat_sort}
 use Rattle.flow_syntax.specs.Wants.{Want, told_in, known_sort, source_want, element_want, key_want, value_want, same_want}
-use Rattle.flow_syntax.specs.ExprPlaces.{Place, place, parts_in, truth_want, optional}
+use Rattle.flow_syntax.specs.ExprPlaces.{Place, place, parts_in, truth_want, chosen_sort, optional}
 use Rattle.flow_syntax.proofs.ExprLayers.{layer_of_int, layer_of_str, layer_of_truth, layer_of_bottom, layer_of_top, layer_of_unreached, layer_of_ident, layer_of_read, layer_of_both, layer_of_choose, layer_of_map_of, layer_of_look, layer_of_update, layer_of_set2, layer_of_arith, layer_of_compare, layer_of_member, layer_of_and, layer_of_or, layer_of_bind, layer_of_if}
 use Rattle.expr_sorts.specs.declared.notes.Notes.{Notes}
 use Rattle.expr_sorts.specs.Noted.{IsNoted, AreNoted, IsNotedBefore, noted_types}
@@ -228,24 +228,24 @@ module _ (spec : Spec) (s : Scope) (w : Want) (e : Expr) where
 
   -- the first two parts of a set that is chosen from another one
   choose_ahead : {o m n : Notes} {t : Telling} (a : Expr) (x : List ℕ) (from : Expr) (c : Option Expr) (si : Scope) (start : ℕ) → (out-Expr e).kind ≡ exprs.Choose a x from c → start ≡ length (noted_types o)
-      → IsChecked spec (place s (first_part_want w (expr_layer e)) from) o m t → si ≡ with_variable s x (set_sort t) → IsNotedBefore spec (place si (second_part_want w t (expr_layer e)) a) start m n
-      → AreNoted spec (place (with_variable s x (set_sort (told spec s from))) (element_want w) a ∷ place s (source_want w) from ∷ []) o n
+      → IsChecked spec (place s (first_part_want w (expr_layer e)) from) o m t → si ≡ with_variable s x (chosen_sort w t) → IsNotedBefore spec (place si (second_part_want w t (expr_layer e)) a) start m n
+      → AreNoted spec (place (with_variable s x (chosen_sort w (told spec s from))) (element_want w) a ∷ place s (source_want w) from ∷ []) o n
   choose_ahead {t = t} a x from c si start at_kind here h scoped k =
       let at : expr_layer e ≡ ExprKind-F.Choose a x from c = ap out-ExprKind at_kind ∙ layer_of_choose a x from c in
-      part_ahead spec (place s (source_want w) from) (place (with_variable s x (set_sort (told spec s from))) (element_want w) a) start here (first_checked (ExprKind-F.Choose a x from c) from at h)
-      (before_at si (with_variable s x (set_sort (told spec s from))) _ (element_want w) a start (scoped ∙ ap (λ y. with_variable s x (set_sort y)) h.tells) (ap (second_part_want w t) at) k)
+      part_ahead spec (place s (source_want w) from) (place (with_variable s x (chosen_sort w (told spec s from))) (element_want w) a) start here (first_checked (ExprKind-F.Choose a x from c) from at h)
+      (before_at si (with_variable s x (chosen_sort w (told spec s from))) _ (element_want w) a start (scoped ∙ ap (λ y. with_variable s x (chosen_sort w y)) h.tells) (ap (second_part_want w t) at) k)
 
   -- the condition of a set that is chosen from another one
-  condition_in : {n k : Notes} (t : Telling) (a : Expr) (x : List ℕ) (from : Expr) (c : Option Expr) (si : Scope) → (out-Expr e).kind ≡ exprs.Choose a x from c → t ≡ told spec s from → si ≡ with_variable s x (set_sort t)
-      → AreNoted spec (optional si (third_part_want w t (expr_layer e)) c) n k → AreNoted spec (optional (with_variable s x (set_sort (told spec s from))) truth_want c) n k
+  condition_in : {n k : Notes} (t : Telling) (a : Expr) (x : List ℕ) (from : Expr) (c : Option Expr) (si : Scope) → (out-Expr e).kind ≡ exprs.Choose a x from c → t ≡ told spec s from → si ≡ with_variable s x (chosen_sort w t)
+      → AreNoted spec (optional si (third_part_want w t (expr_layer e)) c) n k → AreNoted spec (optional (with_variable s x (chosen_sort w (told spec s from))) truth_want c) n k
   condition_in {n} {k} t a x from c si is tells scoped g =
-      subst (λ (y : Want). AreNoted spec (optional (with_variable s x (set_sort (told spec s from))) y c) n k) (ap (third_part_want w t) (ap out-ExprKind is ∙ layer_of_choose a x from c))
-      (subst (λ (y : Scope). AreNoted spec (optional y (third_part_want w t (expr_layer e)) c) n k) (scoped ∙ ap (λ y. with_variable s x (set_sort y)) tells) g)
+      subst (λ (y : Want). AreNoted spec (optional (with_variable s x (chosen_sort w (told spec s from))) y c) n k) (ap (third_part_want w t) (ap out-ExprKind is ∙ layer_of_choose a x from c))
+      (subst (λ (y : Scope). AreNoted spec (optional y (third_part_want w t (expr_layer e)) c) n k) (scoped ∙ ap (λ y. with_variable s x (chosen_sort w y)) tells) g)
 
   pub checked_choose : {o m k n : Notes} {t : Telling} (a : Expr) (x : List ℕ) (from : Expr) (c : Option Expr) (si : Scope) (start : ℕ) → (out-Expr e).kind ≡ exprs.Choose a x from c → start ≡ length (noted_types o)
-      → IsChecked spec (place s (first_part_want w (expr_layer e)) from) o m t → si ≡ with_variable s x (set_sort t)
+      → IsChecked spec (place s (first_part_want w (expr_layer e)) from) o m t → si ≡ with_variable s x (chosen_sort w t)
       → IsNotedBefore spec (place si (second_part_want w t (expr_layer e)) a) start m k → AreNoted spec (optional si (third_part_want w t (expr_layer e)) c) k n → HasCheckedParts spec (place s w e) o n untold
   checked_choose {t = t} a x from c si start at_kind here h scoped g k =
       checked_at (ExprKind-F.Choose a x from c) untold (ap out-ExprKind at_kind ∙ layer_of_choose a x from c)
-      (parts_noted spec (place (with_variable s x (set_sort (told spec s from))) (element_want w) a ∷ place s (source_want w) from ∷ []) (optional (with_variable s x (set_sort (told spec s from))) truth_want c)
+      (parts_noted spec (place (with_variable s x (chosen_sort w (told spec s from))) (element_want w) a ∷ place s (source_want w) from ∷ []) (optional (with_variable s x (chosen_sort w (told spec s from))) truth_want c)
       (choose_ahead a x from c si start at_kind here h scoped g) (condition_in t a x from c si at_kind h.tells scoped k)) refl

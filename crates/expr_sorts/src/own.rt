@@ -19,13 +19,13 @@ use earliest_fault::Earliest;
 use flow_syntax::{Expr, ExprKind, ExprType, SpecFaultKind};
 use type_wants::{Shape, Telling, Want, is_in, is_same_type};
 
-/// Whether what is told of an expression of a form with types of this group is another type than the wanted one.
+/// Whether what is told of an expression of a form with types of this group is another type than the wanted one. A form with types of a smaller
+/// group is told from its parts, of which the wanted type is wanted too: they have that fault, and not the whole.
 fn is_other(form: Shape, wanted: &ExprType, told: &Telling) -> bool
     ensures { IsTrue result ↔ IsOther (shape_of form) (typing_of wanted.now) (telling_of told.now) }
 {
     match (form, told) {
-        (Shape::AnyPair, _) => false,
-        (_, Telling::Is(typing)) => !is_same_type(typing, wanted),
+        (Shape::Anything, Telling::Is(typing)) => !is_same_type(typing, wanted),
         _ => false,
     }
 }

@@ -25,7 +25,7 @@ use flow_syntax::{ElemSort, Expr, ExprKind, ExprType, LatticeType, Named};
 use flow_term::{Boxed, Text};
 use std::alloc::{AllocError, Global};
 use type_wants::{
-    Telling, Want, copy_named, element_want, flat_sort, free, key_want, set_sort, value_want,
+    Telling, Want, chosen_sort, copy_named, element_want, flat_sort, free, key_want, value_want,
 };
 
 /// What those that need the type of an expression are told, where its form tells this.
@@ -299,7 +299,7 @@ fn note_choose(
     };
     let start = count(&notes.types);
     let told = check_first(from.get(), cx, scope, kind, want, notes)?;
-    let inner = inner_scope(&*scope, name, set_sort(&told));
+    let inner = inner_scope(&*scope, name, chosen_sort(want, &told));
     note_before(element.get(), cx, &inner, kind, want, &told, start, notes)?;
     note_condition(condition, cx, &inner, kind, want, &told, notes)
 }

@@ -1,5 +1,5 @@
 -- Expressions without faults: what is told of them, and that they are as wanted.
-use Rattle.std.proofs.Common.{◌≡◌, ℕ, Bool, true, false, List, [], ◌∷◌, ◌++◌, length, Option, Some, None, refl, sym, ap, ◌∙◌}
+use Rattle.std.proofs.Common.{◌≡◌, ℕ, zero, suc, Bool, true, false, List, [], ◌∷◌, ◌++◌, length, arith, Option, Some, None, refl, sym, ap, subst, ◌∙◌}
 use Rattle.std.specs.Prelude.{Contains, ◌==◌, if◌then◌else◌}
 use Rattle.std.specs.List.{AllByRecursion}
 use Rattle.std.specs.Option.{option_map_or}
@@ -24,6 +24,12 @@ use Rattle.flow_syntax.specs.Wants.{IsMisfit}
 pub all_append : {X : Type 0} (P : X → Type 0) (xs ys : List X) → AllByRecursion P xs → AllByRecursion P ys → AllByRecursion P (xs ++ ys)
 all_append P [] ys h k = k
 all_append P (x ∷ xs) ys h k = (h.0, all_append P xs ys h.1 k)
+
+-- what holds of each item of a list holds of one that it has
+pub at_each : {X : Type 0} (P : X → Type 0) (xs : List X) (x : X) → AllByRecursion P xs → Contains xs x → P x
+at_each P [] x h (k, l, e) = absurd (omega arith)
+at_each P (y ∷ ys) x h (zero, l, e) = subst P e h.0
+at_each P (y ∷ ys) x h (suc k, l, e) = at_each P ys x h.1 (k, omega arith, e)
 
 -- what is told of an expression, by its layer
 pub told_out : (spec : Spec) (s : Scope) (e : Expr) → told spec s e ≡ told_layer spec s (told_parts spec s (expr_layer e))

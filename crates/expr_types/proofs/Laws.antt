@@ -38,14 +38,14 @@ listed_right spec p typed = by p.want refl typed
 
 module _ (spec : Spec) where
   -- An expression has no faults, and has a type.
-  abbrev IsGood : Place → Type 0
+  abbrev pub IsGood : Place → Type 0
   IsGood p = IsClean spec p × IsTypedPart spec p
 
-  good_parts : (ps : List Place) → ((q : Place) → Contains ps q → IsClean spec q) → AllByRecursion (IsTypedPart spec) ps → AllByRecursion IsGood ps
+  pub good_parts : (ps : List Place) → ((q : Place) → Contains ps q → IsClean spec q) → AllByRecursion (IsTypedPart spec) ps → AllByRecursion IsGood ps
   good_parts [] clean h = tt
   good_parts (p ∷ ps) clean h = ((clean p (Contains_here p ps), h.0), good_parts ps (λ q among. clean q (Contains_behind p ps q among)) h.1)
 
-  typed_inside : (p : Place) (ts : List Typing) → IsGood p → AreListed spec (parts_of spec p) ts → AllByRecursion IsGood (parts_of spec p)
+  pub typed_inside : (p : Place) (ts : List Typing) → IsGood p → AreListed spec (parts_of spec p) ts → AllByRecursion IsGood (parts_of spec p)
   typed_inside p ts good listed =
       good_parts (parts_of spec p) (λ q. part_clean spec p q good.0)
       (typed_parts spec p.scope good.1.0 p.want (expr_layer p.expr) (subst (λ (u : Telling). IsTyped p.want u) (told_own spec p good.0) good.1.1) (fits spec p good.0) (names_right spec p good.0) (parts_sound spec p ts listed good.0))
@@ -57,11 +57,11 @@ module _ (spec : Spec) where
 
   -- WHOLE EXPRESSIONS
 
-  sorted_variables : (bs : List Bound) → AllByRecursion HasSort (map variable_of bs)
+  pub sorted_variables : (bs : List Bound) → AllByRecursion HasSort (map variable_of bs)
   sorted_variables [] = tt
   sorted_variables (b ∷ bs) = ((b.sort, refl), sorted_variables bs)
 
-  sorted_rule : (t : Trigger) → IsSorted (trigger_scope t)
+  pub sorted_rule : (t : Trigger) → IsSorted (trigger_scope t)
   sorted_rule (trigger.Forward p) = sorted_variables (bound_in p)
   sorted_rule (trigger.Backward p) = sorted_variables (bound_in p)
   sorted_rule (trigger.AtStart p) = sorted_variables (bound_in p)
@@ -75,10 +75,10 @@ module _ (spec : Spec) where
         by (Some p) e = by_want (lattice (lattice_of p.lattice)) refl
         by None e = absurd (faultless _ _ (declaration (unknown rule.property (property rule among e) refl)))
 
-    good_body : (rule : PropRule) → Contains spec.rules rule → IsGood (body_of spec rule)
+    pub good_body : (rule : PropRule) → Contains spec.rules rule → IsGood (body_of spec rule)
     good_body rule among = (λ at kind h. faultless at kind (expression (body rule kind among h)), (sorted_rule rule.trigger, wanted_body rule among _))
 
-    good_condition : (m : Message) → Contains spec.messages m → AllByRecursion IsGood (optional (message_scope m) truth_want m.condition)
+    pub good_condition : (m : Message) → Contains spec.messages m → AllByRecursion IsGood (optional (message_scope m) truth_want m.condition)
     good_condition m among = by m.condition refl
       where
         by : (c : Option Expr) → m.condition ≡ c → AllByRecursion IsGood (optional (message_scope m) truth_want c)
@@ -95,7 +95,7 @@ module _ (spec : Spec) where
         all_append IsGood (optional (message_scope m) truth_want m.condition) (flat_map (λ m. optional (message_scope m) truth_want m.condition) ms) (good_condition m (within m (Contains_here m ms)))
         (good_conditions ms (λ n among. within n (Contains_behind m ms n among)))
 
-    good_wholes : AllByRecursion IsGood (wholes_of spec)
+    pub good_wholes : AllByRecursion IsGood (wholes_of spec)
     good_wholes =
         all_append IsGood (map (body_of spec) spec.rules) (flat_map (λ m. optional (message_scope m) truth_want m.condition) spec.messages) (good_bodies spec.rules (λ r among. among)) (good_conditions spec.messages (λ m among. among))
 

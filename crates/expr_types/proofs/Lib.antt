@@ -1,5 +1,9 @@
 pub mod Clean
-pub mod Shown
-pub mod Typed
+pub mod Equal
+pub mod Kept
 pub mod Laws
+pub mod One
 pub mod Order
+pub mod Shown
+pub mod Single
+pub mod Typed

@@ -21,7 +21,7 @@ use Rattle.flow_syntax.proofs.Preorders.{preorder_out}
 use Rattle.expr_types.specs.Listing.{ArePlaces, nowhere, there, AreInOrder, TypesAreInOrder}
 
 -- the expressions at places
-abbrev exprs : List Place → List Expr
+abbrev pub exprs : List Place → List Expr
 exprs ps = map (λ p. p.expr) ps
 
 exprs_map : (s : Scope) (w : Want) (es : List Expr) → exprs (map (place s w) es) ≡ es
@@ -50,7 +50,7 @@ zip_split {Y} R (x ∷ xs) us (v ∷ vs) h = let k = zip_split R xs us vs h.1 in
 
 module _ (spec : Spec) where
   -- the places of the parts of an expression are those of its parts, in their order
-  exprs_parts : (s : Scope) (w : Want) (layer : ExprLayer) → exprs (places_in spec s w layer) ≡ parts_in layer
+  pub exprs_parts : (s : Scope) (w : Want) (layer : ExprLayer) → exprs (places_in spec s w layer) ≡ parts_in layer
   exprs_parts s w (ExprKind-F.Call f args) = exprs_arguments s (declared_arguments (function_named spec f)) args
   exprs_parts s w (ExprKind-F.SetOf es) = exprs_map s (element_want w) es
   exprs_parts s w (ExprKind-F.Choose e x from c) = ap (λ (xs : List Expr). e ∷ from ∷ xs) (exprs_optional _ truth_want c)

@@ -15,7 +15,7 @@ use Rattle.flow_syntax.specs.declared.spec.Spec.{Spec}
 use Rattle.flow_syntax.specs.declared.tables.FunctionDecl.{FunctionDecl}
 use Rattle.flow_syntax.specs.Expressions.{ExprLayer}
 use Rattle.flow_syntax.specs.ExprFaults.{IsMiscounted, IsMisnamed}
-use Rattle.flow_syntax.specs.ExprPlaces.{Place, place, parts_in, form_shape, arguments, declared_arguments, optional, truth_want, compared_left, compared_right}
+use Rattle.flow_syntax.specs.ExprPlaces.{Place, place, parts_in, form_shape, arguments, declared_arguments, optional, truth_want, chosen_sort, compared_left, compared_right}
 use Rattle.flow_syntax.specs.Scopes.{Scope, with_variable}
 use Rattle.flow_syntax.specs.Telling.{Telling, is, untold, hidden, told, told_parts, form_telling, function_named, set_sort, flat_sort, key_sort, value_of, pair_telling, only, always_told, operands}
 use Rattle.flow_syntax.specs.Types.{Sort, pair_sort, Typing, lattice, element, truth, may, must, flat, map_to, pair_of, Shape, anything, any_element, any_lattice, any_set, any_may, any_must, any_flat, any_map, any_pair, has_shape}
@@ -29,7 +29,7 @@ pub data IsTyped (w : Want) (u : Telling) : Type 0 where
   by_telling : (t : Typing) → u ≡ is t → IsTyped w u
 
 -- It is known which type is wanted.
-abbrev IsKnown : Want → Type 0
+abbrev pub IsKnown : Want → Type 0
 IsKnown w = (t : Typing) × (w ≡ known t)
 
 -- WHAT ISN'T TOLD IS WANTED
@@ -39,7 +39,7 @@ not_typed w h (by_want t e) = h t e
 not_typed w h (by_telling t e) = cc
 
 -- a form with types of a group, of which nothing is told
-untold_part : (P : Want → Type 0) (form : Shape) → ((t : Typing) → ¬ (has_shape form t ≡ false) → P (known t)) → (w : Want) → IsTyped w untold → ¬ IsMisfit w form untold → P w
+pub untold_part : (P : Want → Type 0) (form : Shape) → ((t : Typing) → ¬ (has_shape form t ≡ false) → P (known t)) → (w : Want) → IsTyped w untold → ¬ IsMisfit w form untold → P w
 untold_part P form h (known t) typed fits = h t (λ e. fits (inr e))
 untold_part P form h (told_in shape) typed fits = absurd (not_typed (told_in shape) (λ t e. cc) typed)
 untold_part P form h (own_choice shape) typed fits = absurd (not_typed (own_choice shape) (λ t e. cc) typed)
@@ -73,13 +73,16 @@ second_known (lattice (pair_of a b)) h = (lattice b, refl)
 second_known t h = absurd (h refl)
 
 -- the type of the whole is wanted, which is in the group
-same_known : (shape : Shape) (t : Typing) → ¬ (has_shape shape t ≡ false) → IsKnown (same_want shape (known t))
+pub same_known : (shape : Shape) (t : Typing) → ¬ (has_shape shape t ≡ false) → IsKnown (same_want shape (known t))
 same_known shape t h = (t, ap (λ b. cond b (known t) free) (passed (has_shape shape t) h))
 
-left_known : (shape : Shape) (t : Typing) → ¬ (has_shape shape t ≡ false) → IsKnown (left_want shape (known t))
-left_known shape t h = (t, ap (λ b. cond b (known t) (if_told_in shape)) (passed (has_shape shape t) h))
+pub left_same : (shape : Shape) (t : Typing) → ¬ (has_shape shape t ≡ false) → left_want shape (known t) ≡ known t
+left_same shape t h = ap (λ b. cond b (known t) (if_told_in shape)) (passed (has_shape shape t) h)
 
-right_known : (shape : Shape) (t : Typing) (u : Telling) → ¬ (has_shape shape t ≡ false) → IsKnown (right_want shape (known t) u)
+pub left_known : (shape : Shape) (t : Typing) → ¬ (has_shape shape t ≡ false) → IsKnown (left_want shape (known t))
+left_known shape t h = (t, left_same shape t h)
+
+pub right_known : (shape : Shape) (t : Typing) (u : Telling) → ¬ (has_shape shape t ≡ false) → IsKnown (right_want shape (known t) u)
 right_known shape t u h = (t, ap (λ b. cond b (known t) free) (passed (has_shape shape t) h))
 
 any_known : (t : Typing) → IsKnown (same_want anything (known t))
@@ -90,31 +93,31 @@ any_known truth = (truth, refl)
 -- WHAT IS TOLD OF A WHOLE IS TOLD OF ITS PARTS
 
 -- what is told of an expression is a type
-abbrev IsTold : Telling → Type 0
+abbrev pub IsTold : Telling → Type 0
 IsTold u = (t : Typing) × (u ≡ is t)
 
 -- a typing that a test for a group lets pass
-like_known : (shape : Shape) (t : Typing) → has_shape shape t ≡ true → IsKnown (like shape (is t))
+pub like_known : (shape : Shape) (t : Typing) → has_shape shape t ≡ true → IsKnown (like shape (is t))
 like_known shape t inside = (t, ap (λ b. cond b (known t) free) inside)
 
-sort_of_set : (t : Typing) → has_shape any_set t ≡ true → (s : Sort) × (set_sort (is t) ≡ Some s)
+pub sort_of_set : (t : Typing) → has_shape any_set t ≡ true → (s : Sort) × (set_sort (is t) ≡ Some s)
 sort_of_set (lattice (may s)) h = (s, refl)
 sort_of_set (lattice (must s)) h = (s, refl)
 sort_of_set t h = absurd (true≢false (sym h))
 
-sort_of_may : (t : Typing) → has_shape any_may t ≡ true → (s : Sort) × (set_sort (is t) ≡ Some s)
+pub sort_of_may : (t : Typing) → has_shape any_may t ≡ true → (s : Sort) × (set_sort (is t) ≡ Some s)
 sort_of_may (lattice (may s)) h = (s, refl)
 sort_of_may t h = absurd (true≢false (sym h))
 
-sort_of_must : (t : Typing) → has_shape any_must t ≡ true → (s : Sort) × (set_sort (is t) ≡ Some s)
+pub sort_of_must : (t : Typing) → has_shape any_must t ≡ true → (s : Sort) × (set_sort (is t) ≡ Some s)
 sort_of_must (lattice (must s)) h = (s, refl)
 sort_of_must t h = absurd (true≢false (sym h))
 
-sort_of_flat : (t : Typing) → has_shape any_flat t ≡ true → (s : Sort) × (flat_sort (is t) ≡ Some s)
+pub sort_of_flat : (t : Typing) → has_shape any_flat t ≡ true → (s : Sort) × (flat_sort (is t) ≡ Some s)
 sort_of_flat (lattice (flat s)) h = (s, refl)
 sort_of_flat t h = absurd (true≢false (sym h))
 
-sort_of_key : (t : Typing) → has_shape any_map t ≡ true → (s : Sort) × (key_sort (is t) ≡ Some s)
+pub sort_of_key : (t : Typing) → has_shape any_map t ≡ true → (s : Sort) × (key_sort (is t) ≡ Some s)
 sort_of_key (lattice (map_to k l)) h = (k, refl)
 sort_of_key t h = absurd (true≢false (sym h))
 
@@ -138,7 +141,7 @@ pair_told t u h = absurd (no h.1)
     no e = cc
 
 -- a type that is told of a part and let pass
-only_told : (shape : Shape) (u : Telling) → IsTold (only shape u) → (t : Typing) × (u ≡ is t) × (has_shape shape t ≡ true)
+pub only_told : (shape : Shape) (u : Telling) → IsTold (only shape u) → (t : Typing) × (u ≡ is t) × (has_shape shape t ≡ true)
 only_told shape (is t) h = by (has_shape shape t) refl h.1
   where
     by : (b : Bool) → has_shape shape t ≡ b → cond b (is t) hidden ≡ is h.0 → (x : Typing) × (is t ≡ is x) × (has_shape shape x ≡ true)
@@ -156,19 +159,32 @@ only_told shape hidden h = absurd (no h.1)
     no : hidden ≡ is h.0 → ⊥
     no e = cc
 
-always_told_of : (u : Telling) → IsTold (always_told u) → IsTold u
-always_told_of (is t) h = (t, refl)
-always_told_of untold h = absurd (no h.1)
+-- the type that is let pass is the one that is told of the part
+pub only_is : (shape : Shape) (u : Telling) (x : Typing) → only shape u ≡ is x → u ≡ is x
+only_is shape (is t) x e = by (has_shape shape t) e
   where
-    no : hidden ≡ is h.0 → ⊥
-    no e = cc
-always_told_of hidden h = absurd (no h.1)
+    by : (b : Bool) → cond b (is t) hidden ≡ is x → is t ≡ is x
+    by true k = k
+    by false k = absurd (no k)
+      where
+        no : hidden ≡ is x → ⊥
+        no d = cc
+only_is shape untold x e = e
+only_is shape hidden x e = e
+
+pub always_is : (u : Telling) (x : Typing) → always_told u ≡ is x → u ≡ is x
+always_is (is t) x e = e
+always_is untold x e = absurd (no e)
   where
-    no : hidden ≡ is h.0 → ⊥
-    no e = cc
+    no : hidden ≡ is x → ⊥
+    no d = cc
+always_is hidden x e = e
+
+pub always_told_of : (u : Telling) → IsTold (always_told u) → IsTold u
+always_told_of u h = (h.0, always_is u h.0 h.1)
 
 -- where it isn't known which type is wanted, it is told
-told_typed : (w : Want) (u : Telling) → ((t : Typing) → ¬ (w ≡ known t)) → IsTyped w u → IsTold u
+pub told_typed : (w : Want) (u : Telling) → ((t : Typing) → ¬ (w ≡ known t)) → IsTyped w u → IsTold u
 told_typed w u h (by_want t e) = absurd (h t e)
 told_typed w u h (by_telling t e) = (t, e)
 
@@ -218,11 +234,11 @@ module _ (spec : Spec) where
 
   -- the set from which another is made
   source_part : (s : Scope) → IsSorted s → (from : Expr) (t : Typing) → ¬ (has_shape any_set t ≡ false) → IsSound spec (place s (source_want (known t)) from)
-      → ((k : Sort) × (set_sort (told spec s from) ≡ Some k)) × IsTypedPart (place s (source_want (known t)) from)
+      → ((k : Sort) × (chosen_sort (known t) (told spec s from) ≡ Some k)) × IsTypedPart (place s (source_want (known t)) from)
   source_part s sorted from (lattice (may k)) h sound =
-      let t = told_part spec s any_may from sound sorted in let k = sort_of_may t.0 t.2 in ((k.0, ap set_sort t.1 ∙ k.1), told_of s sorted _ from (t.0, t.1))
+      let t = told_part spec s any_may from sound sorted in let k = sort_of_may t.0 t.2 in ((k.0, ap (chosen_sort (known (lattice (may k.0)))) t.1 ∙ ap (λ b. set_sort (cond b (is t.0) hidden)) t.2 ∙ k.1), told_of s sorted _ from (t.0, t.1))
   source_part s sorted from (lattice (must k)) h sound =
-      let t = told_part spec s any_must from sound sorted in let k = sort_of_must t.0 t.2 in ((k.0, ap set_sort t.1 ∙ k.1), told_of s sorted _ from (t.0, t.1))
+      let t = told_part spec s any_must from sound sorted in let k = sort_of_must t.0 t.2 in ((k.0, ap (chosen_sort (known (lattice (must k.0)))) t.1 ∙ ap (λ b. set_sort (cond b (is t.0) hidden)) t.2 ∙ k.1), told_of s sorted _ from (t.0, t.1))
   source_part s sorted from t h sound = absurd (h refl)
 
   condition_part : (s : Scope) → IsSorted s → (c : Option Expr) → AllByRecursion IsTypedPart (optional s truth_want c)
@@ -257,8 +273,8 @@ module _ (spec : Spec) where
       let h = pair_told (told spec s a) (told spec s b) (told_typed w _ (λ t e. cc) typed) in (told_of s sorted _ a h.0, (told_of s sorted _ b h.1, tt))
   typed_parts s sorted w (ExprKind-F.SetOf es) typed fits names sound = each_wanted s sorted _ es (untold_part (λ x. IsKnown (element_want x)) any_set element_known w typed fits)
   typed_parts s sorted w (ExprKind-F.Choose e x from c) typed fits names sound =
-      let source = untold_part (λ v. IsSound spec (place s (source_want v) from) → ((k : Sort) × (set_sort (told spec s from) ≡ Some k)) × IsTypedPart (place s (source_want v) from)) any_set (source_part s sorted from) w typed fits sound.1.0 in
-      let here = inside s x (set_sort (told spec s from)) sorted source.0 in
+      let source = untold_part (λ v. IsSound spec (place s (source_want v) from) → ((k : Sort) × (chosen_sort v (told spec s from) ≡ Some k)) × IsTypedPart (place s (source_want v) from)) any_set (source_part s sorted from) w typed fits sound.1.0 in
+      let here = inside s x (chosen_sort w (told spec s from)) sorted source.0 in
       (wanted _ here _ e (untold_part (λ v. IsKnown (element_want v)) any_set element_known w typed fits), (source.1, condition_part _ here c))
   typed_parts s sorted w (ExprKind-F.MapOf ks vs) typed fits names sound =
       all_append IsTypedPart (map (place s (key_want w)) ks) (map (place s (value_want w)) vs) (each_wanted s sorted _ ks (untold_part (λ x. IsKnown (key_want x)) any_map key_known w typed fits))

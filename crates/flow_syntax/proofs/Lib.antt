@@ -9,6 +9,7 @@ pub mod Lexemes
 pub mod Listed
 pub mod Matches
 pub mod Numbers
+pub mod Parts
 pub mod Passing
 pub mod Pieces
 pub mod Preorders

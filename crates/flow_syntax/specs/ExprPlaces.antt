@@ -8,10 +8,10 @@ use Rattle.flow_syntax.specs.declared.spec.Named.{Named}
 use Rattle.flow_syntax.specs.declared.spec.Spec.{Spec}
 use Rattle.flow_syntax.specs.declared.tables.FunctionDecl.{FunctionDecl}
 use Rattle.flow_syntax.specs.Expressions.{ExprLayer, expr_layer}
-use Rattle.flow_syntax.specs.Types.{lattice, table, element, int_sort, truth, Shape, anything, any_element, any_lattice, any_set, any_must, any_flat, any_map, any_pair}
+use Rattle.flow_syntax.specs.Types.{Sort, lattice, table, element, int_sort, truth, Shape, anything, any_element, any_lattice, any_set, any_must, any_flat, any_map, any_pair}
 use Rattle.flow_syntax.specs.Scopes.{Scope, with_variable}
-use Rattle.flow_syntax.specs.Telling.{Telling, function_named, told, set_sort, flat_sort, key_sort, operands}
-use Rattle.flow_syntax.specs.Wants.{Want, known, told_in, free, known_sort, element_want, source_want, flat_want, key_want, value_want, first_want, second_want, same_want, left_want, right_want, map_want, updated_key_want, updated_value_want, like}
+use Rattle.flow_syntax.specs.Telling.{Telling, function_named, told, set_sort, flat_sort, key_sort, only, operands}
+use Rattle.flow_syntax.specs.Wants.{Want, known, told_in, free, known_sort, element_want, source_shape, source_want, flat_want, key_want, value_want, first_want, second_want, same_want, left_want, right_want, map_want, updated_key_want, updated_value_want, like}
 
 -- an expression at a place: the scope there, and what is wanted of its type
 pub record Place : Type 0 where
@@ -55,6 +55,10 @@ compared_right compare.Eq left = like any_element left
 compared_right compare.Ne left = like any_element left
 compared_right op left = int_want
 
+-- the sort of the elements of which a set is made, from what is told of the set that they are taken from: none where that isn't of the same kind
+abbrev pub chosen_sort : Want → Telling → Option Sort
+chosen_sort want set = set_sort (only (source_shape want) set)
+
 -- the parts of an expression that stands in a scope, where this is wanted of its type, in the order of `Expressions`
 abbrev pub parts_in : Spec → Scope → Want → ExprLayer → List Place
 parts_in spec s w (ExprKind-F.Call f args) = arguments s (declared_arguments (function_named spec f)) args
@@ -63,8 +67,8 @@ parts_in spec s w (ExprKind-F.Fst a) = place s (told_in any_pair) a ∷ []
 parts_in spec s w (ExprKind-F.Snd a) = place s (told_in any_pair) a ∷ []
 parts_in spec s w (ExprKind-F.Both a b) = place s (first_want w) a ∷ place s (second_want w) b ∷ []
 parts_in spec s w (ExprKind-F.SetOf es) = map (place s (element_want w)) es
-parts_in spec s w (ExprKind-F.Choose e x from c) = place (with_variable s x (set_sort (told spec s from))) (element_want w) e ∷ place s (source_want w) from
-    ∷ optional (with_variable s x (set_sort (told spec s from))) truth_want c
+parts_in spec s w (ExprKind-F.Choose e x from c) = place (with_variable s x (chosen_sort w (told spec s from))) (element_want w) e ∷ place s (source_want w) from
+    ∷ optional (with_variable s x (chosen_sort w (told spec s from))) truth_want c
 parts_in spec s w (ExprKind-F.MapOf ks vs) = map (place s (key_want w)) ks ++ map (place s (value_want w)) vs
 parts_in spec s w (ExprKind-F.Look m k) = place s (told_in any_map) m ∷ place s (known_sort (key_sort (told spec s m))) k ∷ []
 parts_in spec s w (ExprKind-F.Update m k v) = place s (map_want w) m ∷ place s (updated_key_want w (told spec s m)) k ∷ place s (updated_value_want w (told spec s m)) v ∷ []

@@ -11,6 +11,7 @@ pub mod Graph
 pub mod Lattices
 pub mod Lexing
 pub mod Matching
+pub mod Parts
 pub mod Props
 pub mod RuleFaults
 pub mod Scopes

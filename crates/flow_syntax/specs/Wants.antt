@@ -1,6 +1,6 @@
 -- What is wanted of the type of an expression, and when the expression doesn't have it.
 use Rattle.std.specs.Prelude.{◌≡◌, ◌≢◌, ◌⊎◌, false, Option, Some, None, if◌then◌else◌}
-use Rattle.flow_syntax.specs.Types.{Sort, pair_sort, may, must, flat, map_to, pair_of, Typing, lattice, element, Shape, anything, any_set, any_may, any_must, any_map, any_pair, any_lattice, has_shape}
+use Rattle.flow_syntax.specs.Types.{Sort, pair_sort, may, must, flat, map_to, pair_of, Typing, lattice, element, Shape, anything, any_set, any_may, any_must, any_map, any_lattice, has_shape}
 use Rattle.flow_syntax.specs.Telling.{Telling, is, untold, hidden, key_sort, value_of}
 
 -- What is wanted of the type of an expression:
@@ -22,13 +22,11 @@ abbrev pub known_sort : Option Sort → Want
 known_sort (Some s) = known (element s)
 known_sort None = free
 
--- Of an expression of a form with types of this group, another type is told than the wanted one. A pair is what its parts are: where another pair is
--- told, it's a part of it that is another.
+-- Of an expression of a form with types of this group, another type is told than the wanted one. A pair, an update and an operation of two lattice values
+-- have types of a smaller group, and are told from parts of which that of the wanted type is wanted: where another one is told, a part has the fault, and the whole has none.
 abbrev pub IsOther : Shape → Typing → Telling → Type 0
-IsOther any_pair wanted telling = ⊥
-IsOther form wanted (is t) = t ≢ wanted
-IsOther form wanted untold = ⊥
-IsOther form wanted hidden = ⊥
+IsOther anything wanted (is t) = t ≢ wanted
+IsOther form wanted telling = ⊥
 
 -- A type that is told is outside the group.
 abbrev pub IsOutside : Shape → Telling → Type 0
@@ -51,11 +49,15 @@ element_want (known (lattice (may s))) = known (element s)
 element_want (known (lattice (must s))) = known (element s)
 element_want want = free
 
--- of the set from which another is made: it is of the same kind
+-- the group of the sets from which another is made: they are of the same kind
+abbrev pub source_shape : Want → Shape
+source_shape (known (lattice (may s))) = any_may
+source_shape (known (lattice (must s))) = any_must
+source_shape want = any_set
+
+-- of the set from which another is made
 abbrev pub source_want : Want → Want
-source_want (known (lattice (may s))) = told_in any_may
-source_want (known (lattice (must s))) = told_in any_must
-source_want want = told_in any_set
+source_want want = told_in (source_shape want)
 
 -- of the element in a flat value
 abbrev pub flat_want : Want → Want

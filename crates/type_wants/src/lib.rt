@@ -15,7 +15,7 @@ pub use types::{
     copy_lattice, copy_named, copy_sort, copy_type, is_same_lattice, is_same_sort, is_same_type,
 };
 pub use want::{
-    Want, element_want, first_want, flat_want, free, int, key_want, known_lattice, known_sort,
-    left_want, like, map_want, right_want, same_want, second_want, source_want, truth,
+    Want, chosen_sort, element_want, first_want, flat_want, free, int, key_want, known_lattice,
+    known_sort, left_want, like, map_want, right_want, same_want, second_want, source_want, truth,
     updated_key_want, updated_value_want, value_want,
 };

@@ -1,12 +1,12 @@
 //! What is wanted of the types of the parts of an expression.
 ghost use Rattle.std.specs.Prelude.{◌≡◌, IfOk};
 ghost use Rattle.flow_syntax.specs.Types.{typing_of, sort_of, lattice_of, element, lattice};
-ghost use Rattle.flow_syntax.specs.Wants.{known, free, known_sort, element_want, source_want, flat_want, key_want, value_want, part_want, first_want, second_want, same_want, left_want, map_want, like, right_want, updated_key_want, updated_value_want};
-ghost use Rattle.flow_syntax.specs.ExprPlaces.{truth_want, int_want};
+ghost use Rattle.flow_syntax.specs.Wants.{known, free, known_sort, element_want, source_shape, source_want, flat_want, key_want, value_want, part_want, first_want, second_want, same_want, left_want, map_want, like, right_want, updated_key_want, updated_value_want};
+ghost use Rattle.flow_syntax.specs.ExprPlaces.{truth_want, int_want, chosen_sort};
 ghost use Rattle.type_wants.specs.Views.{shape_of, sort_in, telling_of, want_of};
 
 use crate::shape::{Shape, is_in};
-use crate::telling::{Telling, key_sort, value_of};
+use crate::telling::{Telling, key_sort, set_sort, value_of};
 use crate::types::{copy_lattice, copy_sort, copy_type};
 use flow_syntax::{ElemSort, ExprType, LatticeType};
 use std::alloc::{AllocError, Global};
@@ -85,14 +85,35 @@ pub fn element_want(alloc: Global, want: &Want) -> Result<Want, AllocError>
     }
 }
 
+/// The group of the sets from which another is made.
+fn source_shape(want: &Want) -> Shape
+    ensures { shape_of result ≡ source_shape (want_of want.now) }
+{
+    match want {
+        Want::Known(ExprType::Lattice(LatticeType::May(_))) => Shape::AnyMay,
+        Want::Known(ExprType::Lattice(LatticeType::Must(_))) => Shape::AnyMust,
+        _ => Shape::AnySet,
+    }
+}
+
 /// Of the set from which another is made.
 pub fn source_want(want: &Want) -> Want
     ensures { want_of result ≡ source_want (want_of want.now) }
 {
-    match want {
-        Want::Known(ExprType::Lattice(LatticeType::May(_))) => Want::ToldIn(Shape::AnyMay),
-        Want::Known(ExprType::Lattice(LatticeType::Must(_))) => Want::ToldIn(Shape::AnyMust),
-        _ => Want::ToldIn(Shape::AnySet),
+    Want::ToldIn(source_shape(want))
+}
+
+/// The sort of the elements of which a set is made, from what is told of the set that they are taken from: none where that isn't of the same kind.
+pub fn chosen_sort<'a>(want: &Want, set: &'a Telling) -> Option<&'a ElemSort>
+    ensures { sort_in result ≡ chosen_sort (want_of want.now) (telling_of set.now) }
+{
+    let Telling::Is(typing) = set else {
+        return None;
+    };
+    if is_in(source_shape(want), typing) {
+        set_sort(set)
+    } else {
+        None
     }
 }
 

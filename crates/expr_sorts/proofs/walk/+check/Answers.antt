@@ -28,7 +28,7 @@ note_choose-returns t c =
     let is = c.in-Choose.is ∙ ap (λ a. exprs.Choose a c.in-Choose.name c.in-Choose.from c.in-Choose.condition) (sym c.get-2.ensures) ∙ ap (λ a. exprs.Choose c.get-2.result.now c.in-Choose.name a c.in-Choose.condition) (sym c.get.ensures) in
     on_ok_weaker c.note_condition.result
     (checked_choose c.args.cx.now.spec.now (scope_of c.args.scope.now) (want_of c.args.want.now) c.args.expr.now _ c.in-Choose.name _ c.in-Choose.condition _ _ is c.count-start.ensures c.in_ok-told.ensures
-    (c.inner_scope-inner.ensures ∙ ap (with_variable (scope_of c.args.scope.now) c.in-Choose.name) c.set_sort.ensures) c.in_ok-note_before.ensures) c.note_condition.ensures
+    (c.inner_scope-inner.ensures ∙ ap (with_variable (scope_of c.args.scope.now) c.in-Choose.name) c.chosen_sort.ensures) c.in_ok-note_before.ensures) c.note_condition.ensures
 
 pub note_before-returns : goal.note_before-returns
 note_before-returns t c = part_before c.args.cx.now.spec.now _ c.args.start _ c.count-middle.ensures c.in_ok-note_second.ensures refl c.put_behind.ensures
