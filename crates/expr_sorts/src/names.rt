@@ -15,7 +15,7 @@ use flow_syntax::{
 use flow_term::Text;
 use spec_names::Names;
 use std::alloc::{AllocError, Global};
-use type_wants::{Telling, copy_named, told_element, told_lattice};
+use type_wants::{Telling, told_element, told_lattice};
 
 /// The specification, with its names.
 #[derive(Drop)]
@@ -72,12 +72,12 @@ fn constant_telling(cx: &Context<'_>, name: &Text) -> Result<Telling, AllocError
 {
     match enum_with(cx, name) {
         Some(declared) => {
-            let named = copy_named(&declared.name)?;
+            let named = declared.name.duplicate()?;
             Ok(Telling::Is(ExprType::Elem(ElemSort::Enum(named))))
         }
         None => match lattice_with(cx, name) {
             Some(declared) => {
-                let named = copy_named(&declared.name)?;
+                let named = declared.name.duplicate()?;
                 Ok(Telling::Is(ExprType::Lattice(LatticeType::Table(named))))
             }
             None => Ok(Telling::Hidden),
@@ -117,7 +117,7 @@ pub fn result_telling(cx: &Context<'_>, name: &Text) -> Result<Telling, AllocErr
 {
     match function_named(cx, name) {
         Some(function) => {
-            let named = copy_named(&function.result)?;
+            let named = function.result.duplicate()?;
             Ok(Telling::Is(ExprType::Lattice(LatticeType::Table(named))))
         }
         None => Ok(Telling::Hidden),

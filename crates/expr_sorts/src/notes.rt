@@ -8,7 +8,7 @@ ghost use Rattle.type_wants.specs.Views.{telling_of, want_of};
 use earliest_fault::Earliest;
 use flow_syntax::ExprType;
 use std::alloc::{AllocError, Global};
-use type_wants::{Telling, Want, copy_type};
+use type_wants::{Telling, Want};
 
 /// The earliest fault of expressions, and the type of each, an outer one before its parts.
 #[derive(Drop)]
@@ -57,7 +57,7 @@ fn told_type(alloc: Global, told: &Telling) -> Result<ExprType, AllocError>
     ensures { IfOk result (λ t. typing_of t ≡ told_type (telling_of told.now)) }
 {
     match told {
-        Telling::Is(typing) => copy_type(alloc, typing),
+        Telling::Is(typing) => typing.duplicate(alloc),
         Telling::Untold | Telling::Hidden => Ok(ExprType::Truth),
     }
 }
@@ -67,7 +67,7 @@ pub fn listed_type(alloc: Global, want: &Want, told: &Telling) -> Result<ExprTyp
     ensures { IfOk result (λ t. typing_of t ≡ listed_type (want_of want.now) (telling_of told.now)) }
 {
     match want {
-        Want::Known(typing) => copy_type(alloc, typing),
+        Want::Known(typing) => typing.duplicate(alloc),
         Want::ToldIn(_) | Want::OwnChoice(_) | Want::IfToldIn(_) => told_type(alloc, told),
     }
 }

@@ -24,9 +24,7 @@ use crate::variables::Variable;
 use flow_syntax::{ElemSort, Expr, ExprKind, ExprType, LatticeType, Named};
 use flow_term::{Boxed, Text};
 use std::alloc::{AllocError, Global};
-use type_wants::{
-    Telling, Want, chosen_sort, copy_named, element_want, flat_sort, free, key_want, value_want,
-};
+use type_wants::{Telling, Want, chosen_sort, element_want, flat_sort, free, key_want, value_want};
 
 /// What those that need the type of an expression are told, where its form tells this.
 fn outside(cx: &Context<'_>, scope: &Scope<'_>, kind: &ExprKind, told: Telling) -> Telling
@@ -57,7 +55,7 @@ fn argument_want(declared: Option<&Named>) -> Result<Want, AllocError>
 {
     match declared {
         Some(lattice) => {
-            let named = copy_named(lattice)?;
+            let named = lattice.duplicate()?;
             Ok(Want::Known(ExprType::Lattice(LatticeType::Table(named))))
         }
         None => Ok(free()),

@@ -5,7 +5,6 @@ ghost use Rattle.flow_syntax.specs.Telling.{is, first_of, second_of, value_of, s
 ghost use Rattle.type_wants.specs.Views.{shape_of, sort_in, telling_of};
 
 use crate::shape::{Shape, is_in};
-use crate::types::{copy_lattice, copy_sort, copy_type};
 use flow_syntax::{ElemSort, ExprType, LatticeType};
 use flow_term::Boxed;
 use std::alloc::{AllocError, Global};
@@ -25,14 +24,14 @@ pub enum Telling {
 pub fn told_element(alloc: Global, sort: &ElemSort) -> Result<Telling, AllocError>
     ensures { IfOk result (λ t. telling_of t ≡ is (element (sort_of sort.now))) }
 {
-    Ok(Telling::Is(ExprType::Elem(copy_sort(alloc, sort)?)))
+    Ok(Telling::Is(ExprType::Elem(sort.duplicate(alloc)?)))
 }
 
 /// A value of this lattice.
 pub fn told_lattice(alloc: Global, of: &LatticeType) -> Result<Telling, AllocError>
     ensures { IfOk result (λ t. telling_of t ≡ is (lattice (lattice_of of.now))) }
 {
-    Ok(Telling::Is(ExprType::Lattice(copy_lattice(alloc, of)?)))
+    Ok(Telling::Is(ExprType::Lattice(of.duplicate(alloc)?)))
 }
 
 /// The first part of a pair.
@@ -123,8 +122,8 @@ pub fn pair_telling(alloc: Global, a: &Telling, b: &Telling) -> Result<Telling, 
         Telling::Is(ExprType::Elem(first)) => match b {
             Telling::Hidden => Ok(Telling::Hidden),
             Telling::Is(ExprType::Elem(second)) => {
-                let first = Boxed::new(alloc, copy_sort(alloc, first)?)?;
-                let second = Boxed::new(alloc, copy_sort(alloc, second)?)?;
+                let first = Boxed::new(alloc, first.duplicate(alloc)?)?;
+                let second = Boxed::new(alloc, second.duplicate(alloc)?)?;
                 Ok(Telling::Is(ExprType::Elem(ElemSort::Pair(first, second))))
             }
             _ => Ok(Telling::Untold),

@@ -7,7 +7,6 @@ ghost use Rattle.type_wants.specs.Views.{shape_of, sort_in, telling_of, want_of}
 
 use crate::shape::{Shape, is_in};
 use crate::telling::{Telling, key_sort, set_sort, value_of};
-use crate::types::{copy_lattice, copy_sort, copy_type};
 use flow_syntax::{ElemSort, ExprType, LatticeType};
 use std::alloc::{AllocError, Global};
 
@@ -48,20 +47,20 @@ pub fn int() -> Want
 fn known_element(alloc: Global, sort: &ElemSort) -> Result<Want, AllocError>
     ensures { IfOk result (λ w. want_of w ≡ known (element (sort_of sort.now))) }
 {
-    Ok(Want::Known(ExprType::Elem(copy_sort(alloc, sort)?)))
+    Ok(Want::Known(ExprType::Elem(sort.duplicate(alloc)?)))
 }
 
 /// A value of this lattice.
 pub fn known_lattice(alloc: Global, of: &LatticeType) -> Result<Want, AllocError>
     ensures { IfOk result (λ w. want_of w ≡ known (lattice (lattice_of of.now))) }
 {
-    Ok(Want::Known(ExprType::Lattice(copy_lattice(alloc, of)?)))
+    Ok(Want::Known(ExprType::Lattice(of.duplicate(alloc)?)))
 }
 
 fn known_type(alloc: Global, typing: &ExprType) -> Result<Want, AllocError>
     ensures { IfOk result (λ w. want_of w ≡ known (typing_of typing.now)) }
 {
-    Ok(Want::Known(copy_type(alloc, typing)?))
+    Ok(Want::Known(typing.duplicate(alloc)?))
 }
 
 /// An element of this sort, if one is known.
