@@ -15,8 +15,8 @@ use Rattle.flow_syntax.specs.declared.spec.Spec.{Spec}
 use Rattle.flow_syntax.specs.declared.token.Token.{Token}
 use Rattle.flow_syntax.proofs.TokenTexts.{text_same, text_or_fault}
 use Rattle.flow_parse.specs.Faults.{IsFaultAt}
-use Rattle.tree_sorts.specs.Fits.{TreeFits}
-use Rattle.tree_sorts.specs.Least.{IsLeastMisfit}
+use Rattle.tree_fitting.specs.Fits.{TreeFits}
+use Rattle.tree_fitting.specs.Least.{IsLeastMisfit}
 use Rattle.flow_cli.specs.Accepted.{AreRefusedFor, AreSpecification, IsNoSpecification, IsNoTree, IsRefusedFor, IsTaken, SpecificationText, faulty, not_yet, ill_formed, refused, no_tokens, refused_tokens, no_term, ill_sorted}
 use Rattle.flow_cli.specs.Files.{IsSpecification}
 

@@ -10,7 +10,7 @@ use Rattle.flow_syntax.specs.declared.spec.Spec.{Spec}
 use Rattle.flow_syntax.specs.declared.spec.TypedSpec.{TypedSpec}
 use Rattle.flow_syntax.specs.declared.token.Token.{Token}
 use Rattle.flow_syntax.specs.Tokens.{TokenText}
-use Rattle.tree_sorts.specs.Fits.{TreeFits}
+use Rattle.tree_fitting.specs.Fits.{TreeFits}
 use Rattle.flow_io.specs.declared.reading.ReadRefusal.{ReadRefusal}
 use Rattle.flow_io.specs.declared.reading.ReadRefusal.TheVariants as refusal
 use Rattle.flow_io.specs.Whole.{IsCause, IsWhole}

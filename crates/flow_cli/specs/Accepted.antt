@@ -24,7 +24,7 @@ use Rattle.flow_syntax.specs.Tokens.{TokenText}
 use Rattle.flow_parse.specs.Faults.{IsFaultAt}
 use Rattle.flow_sorts.specs.First.{IsFirstFault}
 use Rattle.simple_rules.specs.Simple.{IsNotYet, IsFirstNotYet}
-use Rattle.tree_sorts.specs.Least.{IsLeastMisfit}
+use Rattle.tree_fitting.specs.Least.{IsLeastMisfit}
 
 -- CAUSES
 

@@ -4,7 +4,7 @@ use Rattle.flow_term.specs.declared.term.Term.{Term}
 use Rattle.aterm_text.specs.Grammar.{TermText}
 use Rattle.flow_syntax.specs.declared.signature.Signature.{Signature}
 use Rattle.flow_syntax.specs.declared.spec.Spec.{Spec}
-use Rattle.tree_sorts.specs.Fits.{TreeFits}
+use Rattle.tree_fitting.specs.Fits.{TreeFits}
 use Rattle.flow_cli.specs.Accepted.{SpecificationText, IsNoSpecification, IsNoTree}
 
 -- the greatest lengths, in bytes

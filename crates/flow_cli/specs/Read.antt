@@ -8,8 +8,8 @@ use Rattle.flow_syntax.specs.declared.spec.TypedSpec.{TypedSpec}
 use Rattle.flow_syntax.specs.declared.signature.Signature.{Signature}
 use Rattle.flow_syntax.specs.declared.spec.Spec.{Spec}
 use Rattle.flow_syntax.specs.declared.token.Token.{Token}
-use Rattle.tree_sorts.specs.Fits.{TreeFits}
-use Rattle.tree_sorts.specs.Least.{IsLeastMisfit}
+use Rattle.tree_fitting.specs.Fits.{TreeFits}
+use Rattle.tree_fitting.specs.Least.{IsLeastMisfit}
 use Rattle.flow_io.specs.declared.reading.ReadRefusal.{ReadRefusal}
 use Rattle.flow_io.specs.declared.reading.ReadRefusal.TheVariants as refusal
 use Rattle.flow_cli.specs.declared.files.Read.{Read}

@@ -1,5 +1,5 @@
 //! What the chains of a rule need to know of the variables of its head.
-ghost use Rattle.std.specs.Prelude.{◌≡◌, ◌||◌, ℕ, List as Sequence, IfOk, OnOk, bytes_eq, map};
+ghost use Rattle.std.specs.Prelude.{◌≡◌, ◌||◌, ℕ, List as Sequence, IfOk, OnOk, map};
 ghost use Rattle.std.specs.List.{list_any};
 ghost use Rattle.flow_syntax.specs.Binders.{bound_in};
 ghost use Rattle.flow_syntax.specs.Control.{is_variable_in};
@@ -7,13 +7,13 @@ ghost use Rattle.flow_syntax.specs.RuleFaults.{arguments};
 ghost use Rattle.flow_syntax.specs.Matching.{pattern_layer};
 ghost use Rattle.flow_syntax.specs.RuleFaults.{binds_itself};
 ghost use Rattle.rule_sorts.specs.Tables.{IsHeadOf, first_position, has_name, known_bound, known_by};
-ghost use Rattle.spec_names.specs.Tables.{or_where, value_in};
+ghost use Rattle.spec_names.specs.Tables.{value_in};
 
 use crate::bindings::{Binding, push_variables};
 use crate::name_set::{NameSet, add_name};
 use flow_syntax::{FlowRule, Pattern, PatternKind};
-use flow_term::Text;
 use indexmap::{IndexMap, IndexSet};
+use spec_names::put_first;
 use std::alloc::{AllocError, Global};
 
 /// The variables of a rule's head by their names.
@@ -25,21 +25,6 @@ pub struct Head<'a> {
     pub direct: NameSet<'a>,
     /// The variables that arguments are, plain or held.
     pub arguments: NameSet<'a>,
-}
-
-/// Puts what is known of a name, if nothing is known of it yet.
-fn put_first<'a>(
-    table: &mut IndexMap<&'a str, bool>,
-    name: &'a Text,
-    is_position: bool,
-) -> Result<(), AllocError>
-    ensures { OnOk result ((x : Sequence ℕ) → value_in table.new x ≡ or_where (value_in table.old x) (bytes_eq x name.now) is_position) }
-{
-    let text = name.as_str();
-    if !table.contains_key(text) {
-        table.insert(text, is_position)?;
-    }
-    Ok(())
 }
 
 /// Whether the first variable of each name is a position.

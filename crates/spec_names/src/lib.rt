@@ -7,3 +7,4 @@ mod table;
 
 pub use declared::Declared;
 pub use names::{Names, names_of};
+pub use table::put_first;

@@ -23,17 +23,17 @@ pub fn number_of(table: &NameTable<'_>, name: &Text) -> Option<usize>
     table.get(name.as_str()).copied()
 }
 
-/// Puts a number for a name, if the name has none yet.
-pub fn put_first<'a>(
-    table: &mut NameTable<'a>,
+/// Puts a value for a name, if the name has none yet. Fails only for want of memory.
+pub fn put_first<'a, V: Copy>(
+    table: &mut IndexMap<&'a str, V>,
     name: &'a Text,
-    number: usize,
+    value: V,
 ) -> Result<(), AllocError>
-    ensures { OnOk result ((x : Sequence ℕ) → value_in table.new x ≡ or_where (value_in table.old x) (bytes_eq x name.now) number) }
+    ensures { OnOk result ((x : Sequence ℕ) → value_in table.new x ≡ or_where (value_in table.old x) (bytes_eq x name.now) value) }
 {
     let text = name.as_str();
     if !table.contains_key(text) {
-        table.insert(text, number)?;
+        table.insert(text, value)?;
     }
     Ok(())
 }

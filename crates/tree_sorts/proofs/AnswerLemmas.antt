@@ -2,17 +2,15 @@
 use Rattle.std.proofs.Common.{◌≡◌, List, [], ℕ, ◌++◌, Option, Some, None, Result, Ok, Err, reverse, sym, subst}
 use Rattle.flow_term.specs.declared.term.Term.{Term}
 use Rattle.flow_syntax.specs.declared.signature.Signature.{Signature}
+use Rattle.tree_fitting.specs.Fits.{Misfits, TreeFits}
+use Rattle.tree_fitting.specs.Least.{IsLeastMisfit, IsLeastOf}
+use Rattle.tree_fitting.proofs.LeastLemmas.{one_least}
 use Rattle.tree_sorts.specs.declared.refusal.TreeRefusal.{TreeRefusal}
 use Rattle.tree_sorts.specs.declared.refusal.TreeRefusal.TheVariants.{IllSorted, NoMemory}
-use Rattle.tree_sorts.specs.Fits.{Misfits, TreeFits}
-use Rattle.tree_sorts.specs.Least.{Accepts, IsLeastMisfit, IsLeastOf, IsRight, Refuses}
-use Rattle.tree_sorts.specs.Searching.{IsFound, IsFoundBehind, Tells}
-use Rattle.tree_sorts.proofs.OrderLemmas.{same_path}
+use Rattle.tree_sorts.specs.Answers.{Accepts, IsRight, Refuses}
+use Rattle.tree_sorts.specs.inner.Searching.{IsFound, IsFoundBehind, Tells}
 
--- there is one least path at most
-pub one_least : (P : List ℕ → Type 0) (p q : List ℕ) → IsLeastOf P p → IsLeastOf P q → p ≡ q
-one_least P p q h k = same_path p q (k.none_before p h.among) (h.none_before q k.among)
-
+-- what was found below the root
 pub behind_root : (P : List ℕ → Type 0) (found : Option (List ℕ)) → IsFound P found → IsFoundBehind P [] found
 behind_root P None h = h
 behind_root P (Some trail) h = h

@@ -15,9 +15,9 @@ use Rattle.flow_syntax.specs.declared.signature.TreeSort.TheVariants as sort_kin
 use Rattle.flow_syntax.specs.declared.signature.TreeSort.TheVariants.{outs-Any, outs-Int, outs-Str}
 use Rattle.flow_syntax.specs.declared.spec.Named.{Named}
 use Rattle.flow_syntax.proofs.Matches.{found_passes}
-use Rattle.tree_sorts.specs.Fits.{SortLayer, MisfitsBelow, argument_sorts, child_sort, constructor_of, fits_form, form_fits, list_sort, named_sort, part_sort, tuple_sort}
-use Rattle.tree_sorts.specs.Searching.{IsFound, MisfitsAmong}
-use Rattle.tree_sorts.proofs.StepLemmas.{child_as, fits_as}
+use Rattle.tree_fitting.specs.Children.{MisfitsAmong}
+use Rattle.tree_fitting.specs.Fits.{SortLayer, MisfitsBelow, argument_sorts, child_sort, constructor_of, fits_form, form_fits, named_sort, part_sort}
+use Rattle.tree_sorts.specs.inner.Searching.{IsFound, list_sort, tuple_sort}
 use Rattle.tree_sorts.proofs.SearchLemmas.{found_here, found_inside, found_nothing}
 
 -- the layer of a term by its kind
@@ -35,6 +35,14 @@ apply_smaller t name args ts e are =
 
 children_of : (t : Term) (y : TermLayer) → term_layer t ≡ y → parts y ≡ children t
 children_of t y e = sym (ap parts e)
+
+-- by the layers of the sort and of the term
+module _ (cs : List Constructor) (sort : TreeSort) (t : Term) (x : SortLayer) (y : TermLayer) (is : out-TreeSort sort ≡ x) (form : term_layer t ≡ y) where
+  fits_as : fits_form cs sort t ≡ form_fits cs x y
+  fits_as = ap (λ (l : SortLayer). form_fits cs l (term_layer t)) is ∙ ap (form_fits cs x) form
+
+  child_as : (n : ℕ) → child_sort cs sort t n ≡ part_sort cs x y n
+  child_as n = ap (λ (l : SortLayer). part_sort cs l (term_layer t) n) is ∙ ap (λ (l : TermLayer). part_sort cs x l n) form
 
 module _ (cs : List Constructor) (t : Term) where
   -- a sort that expects nothing of the children

@@ -4,7 +4,7 @@ use Rattle.std.specs.Prelude.{◌==◌, slice_get, option_and_then, unwrap_or, b
 use Rattle.std.specs.Cmp.Lexicographic.{pointwise, same_text}
 use Rattle.indexmap.specs.IndexMap.{IndexMap, get, Updates}
 use Rattle.flow_syntax.specs.declared.signature.Constructor.{Constructor}
-use Rattle.tree_sorts.specs.Fits.{constructor_of}
+use Rattle.tree_fitting.specs.Fits.{constructor_of}
 use Rattle.tree_sorts.specs.Index.{numbered, overloads, numbers_in, IsIndexOfFirst}
 
 -- one number more

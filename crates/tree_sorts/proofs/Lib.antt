@@ -2,8 +2,6 @@ pub mod AnswerLemmas
 pub mod CountLemmas
 pub mod FormLemmas
 pub mod IndexLemmas
-pub mod OrderLemmas
 pub mod PathLemmas
 pub mod PutLemmas
 pub mod SearchLemmas
-pub mod StepLemmas

@@ -1,42 +1,21 @@
 -- Down a path through a tree that fits.
-use Rattle.std.proofs.Common.{◌≡◌, ℕ, ◌+◌, ◌<◌, Bool, true, false, cond, List, [], ◌∷◌, length, get_or, drop, drop-cons, add-one, Option, Some, None, refl, ap, ◌∙◌}
+use Rattle.std.proofs.Common.{◌≡◌, ℕ, ◌+◌, ◌<◌, List, ◌∷◌, length, get_or, drop, drop-cons, add-one, Option, Some, None, refl, ap, ◌∙◌}
 use Rattle.std.specs.Prelude.{slice_get, option_and_then}
 use Rattle.flow_term.specs.declared.term.Term.{Term}
 use Rattle.flow_term.specs.Trees.{children}
 use Rattle.flow_syntax.specs.declared.signature.Constructor.{Constructor}
 use Rattle.flow_syntax.specs.declared.signature.TreeSort.{TreeSort}
-use Rattle.tree_sorts.specs.Fits.{MisfitsBelow, child_sort, expected_below, fits_form}
-use Rattle.tree_sorts.proofs.StepLemmas.{child_misfits, root_misfits}
-
--- No position at or below the term misfits.
-abbrev pub FitsBelow : List Constructor → TreeSort → Term → Type 0
-FitsBelow cs sort t = (path : List ℕ) → ¬ MisfitsBelow cs sort t path
+use Rattle.tree_fitting.specs.Fits.{FitsBelow, child_sort, expected_below}
+use Rattle.tree_fitting.proofs.FitLemmas.{expected_child}
 
 module _ (cs : List Constructor) (sort : TreeSort) (t : Term) (fit : FitsBelow cs sort t) where
-  pub fits_itself : fits_form cs sort t ≡ true
-  fits_itself = go (fits_form cs sort t) refl
-    where
-      go : (b : Bool) → fits_form cs sort t ≡ b → b ≡ true
-      go true e = refl
-      go false e = absurd (fit [] (root_misfits cs sort t e))
-
-  pub fits_child : (n : ℕ) (child : Term) (below : TreeSort) → slice_get (children t) n ≡ Some child → child_sort cs sort t n ≡ Some below → FitsBelow cs below child
-  fits_child n child below is want path m = fit (n ∷ path) (child_misfits cs sort t n path fits_itself (record { child = child; is = is; sort = below; wanted = want; inside = m }))
-
-  pub expected_child : (n : ℕ) (rest : List ℕ) (want : Option TreeSort) (at : Option Term) → child_sort cs sort t n ≡ want → slice_get (children t) n ≡ at
-      → expected_below cs sort t (n ∷ rest) ≡ option_and_then (λ child. option_and_then (λ below. expected_below cs below child rest) want) at
-  expected_child n rest want at e f =
-      ap (λ (b : Bool). cond b (option_and_then (λ (child : Term). option_and_then (λ (below : TreeSort). expected_below cs below child rest) (child_sort cs sort t n)) (slice_get (children t) n)) None) fits_itself
-      ∙ ap (λ (s : Option TreeSort). option_and_then (λ (child : Term). option_and_then (λ (below : TreeSort). expected_below cs below child rest) s) (slice_get (children t) n)) e
-      ∙ ap (option_and_then (λ (child : Term). option_and_then (λ (below : TreeSort). expected_below cs below child rest) want)) f
-
   none_wanted : (rest : List ℕ) (at : Option Term) → option_and_then (λ (child : Term). option_and_then (λ (below : TreeSort). expected_below cs below child rest) None) at ≡ None
   none_wanted rest None = refl
   none_wanted rest (Some child) = refl
 
   -- nothing is expected where nothing is expected of a child on the way
   pub expected_none : (n : ℕ) (rest : List ℕ) → child_sort cs sort t n ≡ None → expected_below cs sort t (n ∷ rest) ≡ None
-  expected_none n rest e = expected_child n rest None (slice_get (children t) n) e refl ∙ none_wanted rest (slice_get (children t) n)
+  expected_none n rest e = expected_child cs sort t fit n rest None (slice_get (children t) n) e refl ∙ none_wanted rest (slice_get (children t) n)
 
   module _ (steps : List ℕ) (i : ℕ) (within : i < length steps) where
     front : drop i steps ≡ get_or steps i 0 ∷ drop (i + 1) steps
@@ -44,7 +23,7 @@ module _ (cs : List Constructor) (sort : TreeSort) (t : Term) (fit : FitsBelow c
 
     pub next_child : (want : Option TreeSort) (at : Option Term) → child_sort cs sort t (get_or steps i 0) ≡ want → slice_get (children t) (get_or steps i 0) ≡ at
         → expected_below cs sort t (drop i steps) ≡ option_and_then (λ child. option_and_then (λ below. expected_below cs below child (drop (i + 1) steps)) want) at
-    next_child want at e f = ap (expected_below cs sort t) front ∙ expected_child (get_or steps i 0) (drop (i + 1) steps) want at e f
+    next_child want at e f = ap (expected_below cs sort t) front ∙ expected_child cs sort t fit (get_or steps i 0) (drop (i + 1) steps) want at e f
 
     pub next_none : child_sort cs sort t (get_or steps i 0) ≡ None → expected_below cs sort t (drop i steps) ≡ None
     next_none e = ap (expected_below cs sort t) front ∙ (expected_none (get_or steps i 0) (drop (i + 1) steps) e)

@@ -1,4 +1,3 @@
-pub mod Fits
+pub mod Answers
 pub mod Index
-pub mod Least
-pub mod Searching
+pub mod inner

@@ -1,11 +1,12 @@
 //! Whole trees, and replacements in trees that fit.
 ghost use Rattle.std.specs.Prelude.{◌≡◌, ◌<◌, ◌^◌, ◌∷◌, List as Sequence, ℕ, IfOk, Some};
 ghost use Rattle.flow_term.specs.Trees.{Put, term_size};
-ghost use Rattle.tree_sorts.specs.Fits.{TreeFits, expected_at};
+ghost use Rattle.tree_fitting.specs.Fits.{TreeFits, expected_at};
+ghost use Rattle.tree_fitting.specs.Least.{IsLeastMisfit};
+ghost use Rattle.tree_sorts.specs.Answers.{Accepts, IsRight, Refuses};
 ghost use Rattle.tree_sorts.specs.Index.{IsIndexOf};
 ghost use Rattle.std.specs.Option.{option_copied};
-ghost use Rattle.tree_sorts.specs.Least.{Accepts, IsLeastMisfit, IsRight, Refuses};
-ghost use Rattle.tree_sorts.specs.Searching.{IsFoundAt, Tells};
+ghost use Rattle.tree_sorts.specs.inner.Searching.{IsFoundAt, Tells};
 
 use crate::constructors::Constructors;
 use crate::expected::{sort_below, sort_of_argument};

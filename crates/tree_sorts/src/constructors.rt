@@ -3,7 +3,7 @@ ghost use Rattle.std.specs.Prelude.{◌≡◌, ◌==◌, ◌++◌, [], ◌∷◌
 ghost use Rattle.std.specs.Option.{option_copied};
 ghost use Rattle.std.specs.Cmp.Lexicographic.{pointwise};
 ghost use Rattle.indexmap.specs.IndexMap.{Updates};
-ghost use Rattle.tree_sorts.specs.Fits.{argument_sorts, constructor_of};
+ghost use Rattle.tree_fitting.specs.Fits.{argument_sorts, constructor_of};
 ghost use Rattle.tree_sorts.specs.Index.{IsIndexOf, IsIndexOfFirst, numbered, numbers_in};
 
 use flow_syntax::{Constructor, Signature, TreeSort};

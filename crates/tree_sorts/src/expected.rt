@@ -1,7 +1,7 @@
 //! The sort that is expected at a position of a tree that fits.
-ghost use Rattle.std.specs.Prelude.{◌≡◌, List as Sequence, ℕ, slice_get};
+ghost use Rattle.std.specs.Prelude.{◌≡◌, slice_get};
 ghost use Rattle.std.specs.Option.{option_copied};
-ghost use Rattle.tree_sorts.specs.Fits.{MisfitsBelow, child_sort, expected_below, named_sort};
+ghost use Rattle.tree_fitting.specs.Fits.{FitsBelow, child_sort, expected_below, named_sort};
 ghost use Rattle.tree_sorts.specs.Index.{IsIndexOf};
 
 use crate::constructors::Constructors;
@@ -60,7 +60,7 @@ pub fn sort_below<'a>(
     steps: &[u32],
 ) -> Option<&'a TreeSort>
     requires indexed { IsIndexOf constructors.now index.now }
-    requires fits { (path : Sequence ℕ) → ¬ MisfitsBelow constructors.now sort.now term.now path }
+    requires fits { FitsBelow constructors.now sort.now term.now }
     ensures { option_copied result ≡ expected_below constructors.now sort.now term.now steps.now }
 {
     let mut wanted = sort;

@@ -3,9 +3,10 @@
 ghost use Rattle.std.specs.Prelude.{◌≡◌, ◌<◌, ◌^◌, [], IfOk, None, Some, if◌then◌else◌, is_some, length, slice_get, sum_by};
 ghost use Rattle.flow_term.specs.Annotations.{number_in, term_layer, text_in};
 ghost use Rattle.flow_term.specs.Trees.{term_size};
-ghost use Rattle.tree_sorts.specs.Fits.{MisfitsBelow, list_sort, named_sort, tuple_sort};
+ghost use Rattle.tree_fitting.specs.Children.{MisfitsAmong};
+ghost use Rattle.tree_fitting.specs.Fits.{MisfitsBelow, named_sort};
 ghost use Rattle.tree_sorts.specs.Index.{IsIndexOf};
-ghost use Rattle.tree_sorts.specs.Searching.{IsFound, MisfitsAmong};
+ghost use Rattle.tree_sorts.specs.inner.Searching.{IsFound, list_sort, tuple_sort};
 
 use crate::constructors::Constructors;
 use flow_syntax::{Constructor, Named, TreeSort};

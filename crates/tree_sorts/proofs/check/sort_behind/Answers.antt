@@ -1,7 +1,7 @@
 use Rattle.std.proofs.Common.{List, subst, sym}
 use Rattle.flow_syntax.specs.declared.signature.Constructor.{Constructor}
-use Rattle.tree_sorts.specs.Fits.{named_sort}
-use Rattle.tree_sorts.proofs.PathLemmas.{FitsBelow, fits_child}
+use Rattle.tree_fitting.specs.Fits.{FitsBelow, named_sort}
+use Rattle.tree_fitting.proofs.FitLemmas.{fits_child}
 use Rattle.tree_sorts.proofs.check.sort_behind.Goals as goal
 
 pub sort_below-requires-clause-fits : goal.sort_below-requires-clause-fits

@@ -1,6 +1,7 @@
 use Rattle.std.proofs.Common.{Some, None, sym, ◌∙◌, ap}
 use Rattle.std.specs.Option.{option_copied}
-use Rattle.tree_sorts.proofs.PathLemmas.{fits_child, next_child, next_none}
+use Rattle.tree_fitting.proofs.FitLemmas.{fits_child}
+use Rattle.tree_sorts.proofs.PathLemmas.{next_child, next_none}
 use Rattle.tree_sorts.proofs.expected.sort_below.Goals as goal
 
 pub returns-in_err-wanted : goal.returns-in_err-wanted

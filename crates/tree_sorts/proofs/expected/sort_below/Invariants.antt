@@ -1,6 +1,5 @@
 use Rattle.std.proofs.Common.{◌≡◌, drop}
-use Rattle.tree_sorts.specs.Fits.{expected_below}
-use Rattle.tree_sorts.proofs.PathLemmas.{FitsBelow}
+use Rattle.tree_fitting.specs.Fits.{FitsBelow, expected_below}
 use Rattle.tree_sorts.proofs.expected.sort_below.Given as goal
 
 -- what is left of the path leads from here to the sort to which the whole path leads from the root

@@ -5,11 +5,12 @@ use Rattle.std.proofs.lemmas.Option.{slice_get_read}
 use Rattle.flow_term.specs.Trees.{term_size}
 use Rattle.flow_term.proofs.Outcomes.{if_ok}
 use Rattle.flow_syntax.specs.declared.signature.TreeSort.{TreeSort}
-use Rattle.tree_sorts.specs.Fits.{MisfitsBelow, list_sort, tuple_sort}
-use Rattle.tree_sorts.specs.Searching.{IsFound}
+use Rattle.tree_fitting.specs.Fits.{MisfitsBelow}
+use Rattle.tree_fitting.proofs.ChildLemmas.{none_more}
+use Rattle.tree_sorts.specs.inner.Searching.{IsFound, list_sort, tuple_sort}
 use Rattle.tree_sorts.proofs.FormLemmas.{apply_smaller, any_found, apply_found, as_many_sorts, integer_found, list_found, no_apply, no_list, no_tuple, other_constructor, other_length, string_found, tuple_found}
 use Rattle.tree_sorts.proofs.CountLemmas.{count_le}
-use Rattle.tree_sorts.proofs.SearchLemmas.{found_in_child, found_none, none_more}
+use Rattle.tree_sorts.proofs.SearchLemmas.{found_in_child, found_none}
 use Rattle.tree_sorts.proofs.search.+search.Goals as goal
 
 pub misfit-returns-in-Any : goal.misfit-returns-in-Any

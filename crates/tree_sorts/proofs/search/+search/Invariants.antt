@@ -1,6 +1,6 @@
 use Rattle.std.proofs.Common.{◌+◌, ◌*◌, Some, slice_get, sum_by}
 use Rattle.flow_term.specs.Trees.{term_size}
-use Rattle.tree_sorts.proofs.SearchLemmas.{NoneBefore}
+use Rattle.tree_fitting.proofs.ChildLemmas.{NoneBefore}
 use Rattle.tree_sorts.proofs.search.+search.Given as goal
 
 abbrev pub decreases-misfit : goal.decreases-misfit

@@ -1,7 +1,7 @@
 use Rattle.std.proofs.Common.{List, [], subst}
 use Rattle.flow_syntax.specs.declared.signature.Constructor.{Constructor}
-use Rattle.tree_sorts.specs.Fits.{Misfits, MisfitsBelow, named_sort}
-use Rattle.tree_sorts.specs.Searching.{IsFound, IsFoundBehind}
+use Rattle.tree_fitting.specs.Fits.{Misfits, MisfitsBelow, named_sort}
+use Rattle.tree_sorts.specs.inner.Searching.{IsFound, IsFoundBehind}
 use Rattle.tree_sorts.proofs.AnswerLemmas.{accepting_answer, behind_root, refusing_answer, right_answer}
 use Rattle.tree_sorts.proofs.constructors.Constructors.check.Goals as goal
 

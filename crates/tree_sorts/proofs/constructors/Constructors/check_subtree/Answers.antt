@@ -1,7 +1,7 @@
 use Rattle.std.proofs.Common.{List, ℕ, refl, subst}
 use Rattle.flow_term.specs.Trees.{Put}
-use Rattle.tree_sorts.specs.Fits.{Misfits, expected_at, named_sort}
-use Rattle.tree_sorts.specs.Searching.{IsFoundAt, IsFoundBehind, Tells}
+use Rattle.tree_fitting.specs.Fits.{Misfits, expected_at, named_sort}
+use Rattle.tree_sorts.specs.inner.Searching.{IsFoundAt, IsFoundBehind, Tells}
 use Rattle.tree_sorts.proofs.AnswerLemmas.{accepting_answer, refusing_answer, right_answer}
 use Rattle.tree_sorts.proofs.PutLemmas.{put_found}
 use Rattle.tree_sorts.proofs.constructors.Constructors.check_subtree.Goals as goal
