@@ -14,6 +14,3 @@ pub use laws::texts_have_one_answer;
 pub use reader::read;
 pub use refusal::{TermFaultKind, TermRefusal};
 pub use writer::write;
-
-#[cfg(test)]
-mod tests;

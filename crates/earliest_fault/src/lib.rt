@@ -4,6 +4,3 @@
 mod earliest;
 
 pub use earliest::Earliest;
-
-#[cfg(test)]
-mod tests;

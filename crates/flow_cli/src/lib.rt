@@ -16,6 +16,3 @@ mod words;
 pub use running::run;
 pub use status::Status;
 pub use words::{Request, read_words};
-
-#[cfg(test)]
-mod tests;

@@ -22,6 +22,3 @@ pub use reading::{ReadRefusal, read_whole};
 pub use real::{RealFolder, RealSink};
 pub use sink::Sink;
 pub use writing::write_all;
-
-#[cfg(test)]
-mod tests;

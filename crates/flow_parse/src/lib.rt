@@ -13,6 +13,3 @@ mod whole;
 
 pub use parser::parse;
 pub use refusal::{ParseFaultKind, ParseRefusal};
-
-#[cfg(test)]
-mod tests;

@@ -129,6 +129,3 @@ pub fn lex(alloc: Global, bytes: &[u8]) -> Result<List<Token>, LexRefusal>
     }
     read_tokens(alloc, bytes)
 }
-
-#[cfg(test)]
-mod tests;

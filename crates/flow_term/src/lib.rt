@@ -32,6 +32,3 @@ pub use term::{Kind, Term};
 pub use text::Text;
 pub use tree::{NoPosition, replace, term_at};
 pub use value::{Bindings, Bound, Entry, Value, Valued};
-
-#[cfg(test)]
-mod tests;

@@ -9,6 +9,3 @@ mod trace;
 
 pub use queue::WorkQueue;
 pub use trace::{TraceIter, TraceList};
-
-#[cfg(test)]
-mod tests;

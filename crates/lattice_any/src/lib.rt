@@ -15,6 +15,3 @@ pub use any::AnyL;
 pub use laws::{map_joins_are_pointwise, set_joins_are_unions_and_intersections};
 pub use tables::Tables;
 pub use value_text::{ValueRefusal, has_text, read_value, write_value};
-
-#[cfg(test)]
-mod tests;

@@ -9,6 +9,3 @@ mod steps;
 
 pub use lattice::{Lattice, below_is_an_order};
 pub use steps::Steps;
-
-#[cfg(test)]
-mod tests;

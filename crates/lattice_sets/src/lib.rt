@@ -24,6 +24,3 @@ pub use must::{MustL, MustV};
 pub use operations::{contains, includes, inter, minus, union};
 pub use pair::{PairL, PairV};
 pub use sorted_set::SortedSet;
-
-#[cfg(test)]
-mod tests;

@@ -8,6 +8,3 @@ mod primaries;
 
 pub use exprs::expr;
 pub use primaries::condition;
-
-#[cfg(test)]
-mod tests;

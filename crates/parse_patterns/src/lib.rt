@@ -11,6 +11,3 @@ mod trigger;
 pub use control::{read_control_rule, read_head};
 pub use pattern::read_pattern;
 pub use trigger::read_trigger;
-
-#[cfg(test)]
-mod tests;

@@ -12,6 +12,3 @@ pub use names::{read_constructor_name, read_name, read_names};
 pub use signatures::{read_constructor, read_signature, read_tree_sort};
 pub use tables::{read_enum, read_function, read_table};
 pub use types::{read_elem_sort, read_property, read_type};
-
-#[cfg(test)]
-mod tests;

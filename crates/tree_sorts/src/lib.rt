@@ -10,6 +10,3 @@ mod search;
 pub use check::{check_subtree, check_tree};
 pub use constructors::Constructors;
 pub use refusal::TreeRefusal;
-
-#[cfg(test)]
-mod tests;

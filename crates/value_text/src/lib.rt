@@ -19,6 +19,3 @@ pub use laws::texts_have_one_value;
 pub use reader::read_value;
 pub use refusal::ValueRefusal;
 pub use writer::write_value;
-
-#[cfg(test)]
-mod tests;
