@@ -18,18 +18,18 @@ use Rattle.flow_parse.specs.Faults.{IsFaultAt}
 use Rattle.tree_fitting.specs.Fits.{TreeFits}
 use Rattle.tree_fitting.specs.Least.{IsLeastMisfit}
 use Rattle.flow_cli.specs.Accepted.{AreRefusedFor, AreSpecification, IsNoSpecification, IsNoTree, IsRefusedFor, IsTaken, SpecificationText, faulty, not_yet, ill_formed, refused, no_tokens, refused_tokens, no_term, ill_sorted}
-use Rattle.flow_cli.specs.Files.{IsSpecification}
+use Rattle.flow_cli.specs.Files.{IsSpecification, IsTree}
 
-abbrev TheText : List Token → Spec → Type 0
+abbrev pub TheText : List Token → Spec → Type 0
 TheText tokens spec = IsText spec_syntax nesting_limit Whole tokens spec
 
-same_spec : (tokens : List Token) (spec other : Spec) → TheText tokens spec → TheText tokens other → spec ≡ other
+pub same_spec : (tokens : List Token) (spec other : Spec) → TheText tokens spec → TheText tokens other → spec ≡ other
 same_spec tokens spec other one two = let e : Ok spec ≡ Ok other = sym (all_only tokens spec one) ∙ all_only tokens other two in cc
 
 ok_or_err : {X E : Type 0} (x : X) (e : E) → Ok x ≡ Err e → ⊥
 ok_or_err x e h = cc
 
-text_or_syntax_fault : (tokens : List Token) (spec : Spec) (place : ℕ) (why : Cause) → TheText tokens spec → IsFaultAt tokens place why → ⊥
+pub text_or_syntax_fault : (tokens : List Token) (spec : Spec) (place : ℕ) (why : Cause) → TheText tokens spec → IsFaultAt tokens place why → ⊥
 text_or_syntax_fault tokens spec place why text fault =
     ok_or_err spec (why, fault.rest) (sym (all_only tokens spec text) ∙ all_fault_only tokens why fault.rest fault.fault)
 
@@ -63,3 +63,7 @@ pub tree_or_refused : (signature : Option Signature) (bytes cause : List ℕ) (t
 tree_or_refused signature bytes cause tree text fits (no_term offset kind fault e) = (one_answer bytes).not_both tree offset kind text fault
 tree_or_refused signature bytes cause tree text fits (ill_sorted other path other_text least e) =
     fits_or_misfits signature tree path fits (subst (λ (t : Term). IsLeastMisfit signature t path) ((one_answer bytes).one_term other tree other_text text) least)
+
+pub same_tree : (signature : Option Signature) (content : Option (List ℕ)) (tree other : Term) → IsTree signature content tree → IsTree signature content other → tree ≡ other
+same_tree signature content tree other one two =
+    (one_answer two.bytes).one_term tree other (subst (λ (bytes : List ℕ). TermText bytes tree) (same_Some one.bytes two.bytes (sym one.is ∙ two.is)) one.form) two.form

@@ -19,7 +19,7 @@ use Rattle.flow_cli.specs.declared.files.Read.TheVariants.{Accepted, Refused}
 use Rattle.std.specs.Prelude.{codes}
 use Rattle.flow_cli.specs.Accepted.{IsNoSpecification, IsNoTree, IsTaken, refused_tokens, refused, ill_sorted}
 use Rattle.flow_cli.specs.Files.{IsRefusal, missing, too_large, ill_formed, specification_limit, tree_limit}
-use Rattle.flow_cli.specs.Read.{IsFitted, IsFormOfSpec, IsFormOfSpecification, IsFormOfTokens, IsFormOfTree, IsLineOf, IsReadSpecification, IsReadTree}
+use Rattle.flow_cli.specs.inner.Read.{IsFitted, IsFormOfSpec, IsFormOfSpecification, IsFormOfTokens, IsFormOfTree, IsLineOf, IsReadSpecification, IsReadTree}
 
 pub read_form : (content : Option (List ℕ)) (bytes : List ℕ) → IsWhole content specification_limit bytes → (read : Read TypedSpec) → IsFormOfSpecification bytes read → IsReadSpecification content read
 read_form content bytes whole (Accepted typed) h = record { bytes = bytes; is = whole.0; small = whole.1; form = h }

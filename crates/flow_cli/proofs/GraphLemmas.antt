@@ -8,7 +8,7 @@ use Rattle.flow_cli.specs.declared.output.End.TheVariants as end
 use Rattle.flow_cli.specs.declared.output.Output.{Output}
 use Rattle.flow_cli.specs.Files.{IsRefusedSpecification, IsRefusedTree}
 use Rattle.flow_cli.specs.GraphText.{GraphText}
-use Rattle.flow_cli.specs.Read.{IsReadSpecification, IsReadTree}
+use Rattle.flow_cli.specs.inner.Read.{IsReadSpecification, IsReadTree}
 use Rattle.flow_cli.specs.Whole.{IsGraphOutput, refused_specification, refused_tree, printed}
 
 module _ (sc tc : Option (List ℕ)) (spec_read : Read TypedSpec) (spec_told : IsReadSpecification sc spec_read) where

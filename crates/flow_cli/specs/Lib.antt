@@ -1,7 +1,7 @@
 pub mod Accepted
 pub mod Files
 pub mod GraphText
+pub mod inner
 pub mod Outcome
-pub mod Read
 pub mod Whole
 pub mod Words

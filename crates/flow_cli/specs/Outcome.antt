@@ -1,6 +1,7 @@
 -- What each status says of the words, the files and what was written.
-use Rattle.std.specs.Prelude.{◌≡◌, ℕ, List, [], ◌++◌, Option, Some, None, take}
+use Rattle.std.specs.Prelude.{◌≡◌, ◌⊎◌, ℕ, ◌<◌, List, [], Option, Some, length, take}
 use Rattle.flow_io.specs.Contents.{Contents}
+use Rattle.flow_io.specs.Pieces.{appended}
 use Rattle.flow_cli.specs.declared.output.End.{End}
 use Rattle.flow_cli.specs.declared.output.End.TheVariants as end
 use Rattle.flow_cli.specs.declared.status.Status.{Status}
@@ -15,27 +16,51 @@ pub record IsWhole (words : List (List ℕ)) (files : Contents) (out : List ℕ)
   pub asked : request_of words ≡ Some request
   pub whole : Whole request files out how
 
--- The bytes are the first of a whole output.
+-- The bytes are a part of a whole output, from its front, and not all of it.
 pub record IsPart (words : List (List ℕ)) (files : Contents) (written : List ℕ) : Type 0 where
   pub out : List ℕ
   pub how : End
   pub whole : IsWhole words files out how
   pub n : ℕ
+  pub short : n < length out
   pub part : written ≡ take n out
 
--- What was written, by the status, over a folder that holds these files; ReadFault and WriteFault say that a count of faults rose:
-abbrev pub Outcome : List (List ℕ) → Contents → List ℕ → Type 0 → Type 0 → Status → Type 0
--- the whole output, which ends so
-Outcome words files written ReadFault WriteFault status.Done = IsWhole words files written end.Done
-Outcome words files written ReadFault WriteFault status.Refused = IsWhole words files written end.Refused
--- nothing, and the words ask for nothing
-Outcome words files written ReadFault WriteFault status.Usage = (request_of words ≡ None) × (written ≡ [])
--- nothing, and a call on the folder failed
-Outcome words files written ReadFault WriteFault status.ReadFault = ReadFault × (written ≡ [])
--- a part of a whole output, and a call on the sink failed
-Outcome words files written ReadFault WriteFault status.WriteFault = WriteFault × IsPart words files written
+-- What was written, by the status, over a folder that holds these files:
+abbrev pub Outcome : List (List ℕ) → Contents → List ℕ → Status → Type 0
+-- the whole output
+Outcome words files written status.Done = IsWhole words files written end.Done
+-- the whole output, which is the line of the first file that is refused
+Outcome words files written status.Refused = IsWhole words files written end.Refused
+-- a part of the whole output
+Outcome words files written status.WriteFault = IsPart words files written
 -- nothing
-Outcome words files written ReadFault WriteFault status.NoMemory = written ≡ []
+Outcome words files written status.Usage = written ≡ []
+Outcome words files written status.ReadFault = written ≡ []
+Outcome words files written status.NoMemory = written ≡ []
+
+-- What was written, behind what was there before, is as the status says.
+pub record IsOutcome (words : List (List ℕ)) (files : Contents) (before after : Option (List ℕ)) (status : Status) : Type 0 where
+  pub written : List ℕ
+  pub behind : after ≡ appended before written
+  pub outcome : Outcome words files written status
+
+-- The status says that nothing was written.
+abbrev pub WritesNothing : Status → Type 0
+WritesNothing status.Done = ⊥
+WritesNothing status.Refused = ⊥
+WritesNothing status.Usage = Unit {0}
+WritesNothing status.ReadFault = Unit {0}
+WritesNothing status.WriteFault = ⊥
+WritesNothing status.NoMemory = Unit {0}
+
+-- the status of a run whose output was written and ends so
+abbrev pub status_of : End → Status
+status_of end.Done = status.Done
+status_of end.Refused = status.Refused
+
+-- The status is that of the words' whole output, unless memory ran out.
+abbrev pub IsCompleted : List (List ℕ) → Contents → Status → Type 0
+IsCompleted words files s = (out : List ℕ) (how : End) → IsWhole words files out how → (s ≡ status_of how) ⊎ (s ≡ status.NoMemory)
 
 -- the program's exit status
 abbrev pub number_of : Status → ℕ
@@ -45,21 +70,3 @@ number_of status.Usage = 2
 number_of status.ReadFault = 3
 number_of status.WriteFault = 4
 number_of status.NoMemory = 5
-
--- the status of a run whose output was written and ends so
-abbrev pub status_of : End → Status
-status_of end.Done = status.Done
-status_of end.Refused = status.Refused
-
--- What was written, after what was there before, is as the status says.
-pub record IsOutcome (words : List (List ℕ)) (files : Contents) (before : List ℕ) (after : Option (List ℕ)) (ReadFault WriteFault : Type 0) (status : Status) : Type 0 where
-  pub written : List ℕ
-  pub appended : after ≡ Some (before ++ written)
-  pub outcome : Outcome words files written ReadFault WriteFault status
-
--- What was written of an output that ends so:
-pub data IsWritten (bytes : List ℕ) (how : End) (before : List ℕ) (after : Option (List ℕ)) (WriteFault : Type 0) (s : Status) : Type 0 where
-  -- all of it
-  all : s ≡ status_of how → after ≡ Some (before ++ bytes) → IsWritten bytes how before after WriteFault s
-  -- a part, and a call on the sink failed
-  part : s ≡ status.WriteFault → WriteFault → (n : ℕ) → after ≡ Some (before ++ take n bytes) → IsWritten bytes how before after WriteFault s

@@ -5,7 +5,7 @@ ghost use Rattle.flow_io.specs.Faults.{HasRisen};
 ghost use Rattle.flow_cli.specs.declared.output.Stop.TheVariants.{NoMemory, ReadFault};
 ghost use Rattle.flow_cli.specs.Accepted.{at_place};
 ghost use Rattle.flow_cli.specs.Files.{refusal_line};
-ghost use Rattle.flow_cli.specs.Read.{IsCountable, IsFitted, IsFormOfSpec, IsFormOfSpecification, IsFormOfTokens, IsFormOfTree, IsLineOf, IsReadSpecification, IsReadTree};
+ghost use Rattle.flow_cli.specs.inner.Read.{IsCountable, IsFitted, IsFormOfSpec, IsFormOfSpecification, IsFormOfTokens, IsFormOfTree, IsLineOf, IsReadSpecification, IsReadTree};
 ghost use Rattle.flow_io.specs.declared.reading.ReadRefusal.TheVariants.{Failed};
 ghost use Rattle.flow_syntax.specs.Accepted.{HasIdentifierTokens, HasIdentifiers, IsWellFormed};
 ghost use Rattle.flow_syntax.specs.Tokens.{HasRisingPlaces};

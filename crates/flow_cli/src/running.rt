@@ -2,12 +2,11 @@
 ghost use Rattle.std.specs.Prelude.{◌≡◌, ◌⊎◌, ◌≤◌, ◌<◌, ◌^◌, ℕ, List as Sequence, None, Some, IfErr, IfOk, IfSome};
 ghost use Rattle.std.specs.FinMap.{get};
 ghost use Rattle.flow_term.specs.Trees.{term_size};
-ghost use Rattle.flow_io.specs.Contents.{Contents};
 ghost use Rattle.flow_io.specs.Faults.{HasRisen};
-ghost use Rattle.flow_cli.specs.declared.output.End.{End as TheEnd};
 ghost use Rattle.flow_cli.specs.declared.output.Stop.TheVariants as stops;
 ghost use Rattle.flow_cli.specs.GraphText.{GraphText};
-ghost use Rattle.flow_cli.specs.Outcome.{IsOutcome, IsWhole, IsWritten, status_of};
+ghost use Rattle.flow_cli.specs.inner.Written.{IsWritten};
+ghost use Rattle.flow_cli.specs.Outcome.{IsCompleted, IsOutcome, WritesNothing, status_of};
 ghost use Rattle.flow_cli.specs.Whole.{IsGraphOutput, Whole};
 ghost use Rattle.flow_cli.specs.Words.{request_of};
 
@@ -27,26 +26,37 @@ use std::alloc::{AllocError, Global};
 ///
 /// `Done` and `Refused` come where the whole output was written: the output of the request, or the line of its first
 /// file that is missing, too large or refused for what it holds. `Usage` comes where the words ask for nothing, `ReadFault` and
-/// `WriteFault` only where the folder's or the sink's count of faults rose in this call. Without such a rise, a run whose
-/// words ask for something ends with the status of its whole output, unless memory runs out.
+/// `WriteFault` only where the folder's or the sink's count of faults rose in this call, or stands at its end. Without such a rise,
+/// a run whose words ask for something ends with the status of its whole output, unless memory runs out.
+///
+/// With `Usage`, `ReadFault` and `NoMemory` the sink is as before. With `Usage` so is the folder; no status changes what it holds.
 pub fn run<F: Folder, K: Sink>(
     alloc: Global,
     words: &List<Text>,
     folder: &mut F,
     out: &mut K,
 ) -> Status
-    // Over a folder and a sink that tell, what was written is as the status says.
-    ensures outcome { (files : Contents) (before : Sequence ℕ) → F.held folder.old ≡ Some files → K.written out.old ≡ Some before
-        → IsOutcome words.now files before (K.written out.new) (HasRisen (F.faults folder.old) (F.faults folder.new)) (HasRisen (K.faults out.old) (K.faults out.new)) result }
-    // Where no call fails, a request ends with the status of its whole output.
-    ensures complete { (files : Contents) (before whole : Sequence ℕ) (how : TheEnd) → F.held folder.old ≡ Some files → K.written out.old ≡ Some before
-        → ¬ HasRisen (F.faults folder.old) (F.faults folder.new) → ¬ HasRisen (K.faults out.old) (K.faults out.new) → IsWhole words.now files whole how
-        → (result ≡ status_of how) ⊎ (result ≡ Status.NoMemory) }
-    // Over any folder and sink:
+    // Over a folder that tells what it holds, what was written is as the status says,
+    ensures outcome { IfSome (F.held folder.old)
+        (λ files. IsOutcome words.now files (K.written out.old) (K.written out.new) result) }
+    // and where no call fails, a request ends with the status of its whole output.
+    ensures complete { let reads_failed = HasRisen (F.faults folder.old) (F.faults folder.new) in
+        let writes_failed = HasRisen (K.faults out.old) (K.faults out.new) in
+        ¬ reads_failed → ¬ writes_failed
+        → IfSome (F.held folder.old) (λ files. IsCompleted words.now files result) }
+
+    // Over each folder and sink, when a status comes:
     ensures usage { result ≡ Status.Usage → request_of words.now ≡ None }
     ensures no_usage { request_of words.now ≡ None → (result ≡ Status.Usage) ⊎ (result ≡ Status.NoMemory) }
     ensures read_fault { result ≡ Status.ReadFault → HasRisen (F.faults folder.old) (F.faults folder.new) }
     ensures write_fault { result ≡ Status.WriteFault → HasRisen (K.faults out.old) (K.faults out.new) }
+
+    // and what stays as it was.
+    ensures unwritten { WritesNothing result → out.new ≡ out.old }
+    ensures unread { result ≡ Status.Usage → folder.new ≡ folder.old }
+    ensures kept { F.held folder.new ≡ F.held folder.old }
+    ensures reads_counted { F.faults folder.old ≤ F.faults folder.new }
+    ensures writes_counted { K.faults out.old ≤ K.faults out.new }
 {
     match read_words(alloc, words) {
         Ok(Some(request)) => respond(alloc, &request, folder, out),
@@ -62,11 +72,15 @@ fn respond<F: Folder, K: Sink>(
     folder: &mut F,
     out: &mut K,
 ) -> Status
-    ensures outcome { (words : Sequence (Sequence ℕ)) (files : Contents) (before : Sequence ℕ) → request_of words ≡ Some request.now → F.held folder.old ≡ Some files → K.written out.old ≡ Some before
-        → IsOutcome words files before (K.written out.new) (HasRisen (F.faults folder.old) (F.faults folder.new)) (HasRisen (K.faults out.old) (K.faults out.new)) result }
+    ensures outcome { (words : Sequence (Sequence ℕ)) → request_of words ≡ Some request.now
+        → IfSome (F.held folder.old) (λ files. IsOutcome words files (K.written out.old) (K.written out.new) result) }
     ensures asked { result ≡ Status.Usage → ⊥ }
     ensures read_fault { result ≡ Status.ReadFault → HasRisen (F.faults folder.old) (F.faults folder.new) }
     ensures write_fault { result ≡ Status.WriteFault → HasRisen (K.faults out.old) (K.faults out.new) }
+    ensures unwritten { WritesNothing result → out.new ≡ out.old }
+    ensures kept { F.held folder.new ≡ F.held folder.old }
+    ensures reads_counted { F.faults folder.old ≤ F.faults folder.new }
+    ensures writes_counted { K.faults out.old ≤ K.faults out.new }
 {
     match output_of(alloc, request, folder) {
         Ok(output) => write_output(&output, out),
@@ -77,8 +91,10 @@ fn respond<F: Folder, K: Sink>(
 
 /// Writes an output.
 fn write_output<K: Sink>(output: &Output, out: &mut K) -> Status
-    ensures written { (before : Sequence ℕ) → K.written out.old ≡ Some before → IsWritten output.now.bytes.items output.now.end before (K.written out.new) (HasRisen (K.faults out.old) (K.faults out.new)) result }
-    ensures ends { (result ≡ status_of output.now.end) ⊎ ((result ≡ Status.WriteFault) × HasRisen (K.faults out.old) (K.faults out.new)) }
+    ensures written { IsWritten output.now.bytes.items output.now.end (K.written out.old) (K.written out.new) result }
+    ensures ends { (result ≡ status_of output.now.end)
+        ⊎ ((result ≡ Status.WriteFault) × HasRisen (K.faults out.old) (K.faults out.new)) }
+    ensures counted { K.faults out.old ≤ K.faults out.new }
 {
     match write_all(out, output.bytes.as_slice()) {
         Ok(()) => status_after(output.end),
@@ -97,8 +113,11 @@ fn status_after(end: End) -> Status
 
 /// The output of a request.
 fn output_of<F: Folder>(alloc: Global, request: &Request, folder: &mut F) -> Result<Output, Stop>
-    ensures told { IfSome (F.held folder.old) (λ files. IfOk result (λ output. Whole request.now files output.bytes.items output.end)) }
+    ensures told { IfSome (F.held folder.old)
+        (λ files. IfOk result (λ output. Whole request.now files output.bytes.items output.end)) }
     ensures failed { IfErr result (λ stop. stop ≡ stops.ReadFault → HasRisen (F.faults folder.old) (F.faults folder.new)) }
+    ensures counted { F.faults folder.old ≤ F.faults folder.new }
+    ensures kept { F.held folder.new ≡ F.held folder.old }
 {
     match request {
         Request::Graph { spec, tree } => graph_output(alloc, spec, tree, folder),
@@ -112,8 +131,11 @@ fn graph_output<F: Folder>(
     tree: &Text,
     folder: &mut F,
 ) -> Result<Output, Stop>
-    ensures told { IfSome (F.held folder.old) (λ files. IfOk result (λ output. IsGraphOutput (get files spec.now) (get files tree.now) output.bytes.items output.end)) }
+    ensures told { IfSome (F.held folder.old) (λ files. IfOk result
+        (λ output. IsGraphOutput (get files spec.now) (get files tree.now) output.bytes.items output.end)) }
     ensures failed { IfErr result (λ stop. stop ≡ stops.ReadFault → HasRisen (F.faults folder.old) (F.faults folder.new)) }
+    ensures counted { F.faults folder.old ≤ F.faults folder.new }
+    ensures kept { F.held folder.new ≡ F.held folder.old }
 {
     let spec = match read_specification(alloc, folder, spec.as_str())? {
         Read::Accepted(spec) => spec,

@@ -3,7 +3,7 @@ use Rattle.std.specs.Prelude.{IfSome}
 use Rattle.std.specs.FinMap.{get}
 use Rattle.flow_term.proofs.Outcomes.{both_some, if_some}
 use Rattle.flow_io.specs.Contents.{Contents}
-use Rattle.flow_cli.specs.Read.{IsReadSpecification, IsReadTree}
+use Rattle.flow_cli.specs.inner.Read.{IsReadSpecification, IsReadTree}
 use Rattle.flow_cli.proofs.GraphLemmas.{both_accepted, first_refused, second_refused}
 use Rattle.flow_cli.proofs.running.graph_output.Goals as goal
 

@@ -1,0 +1,4 @@
+pub mod GraphTexts
+pub mod Lines
+pub mod Outputs
+pub mod RisingLists
