@@ -1,5 +1,5 @@
 -- A term fits with all below it, or there is a least misfit at or below it.
-use Rattle.std.proofs.Common.{◌≡◌, ℕ, zero, suc, ◌+◌, ◌<◌, ◌≤◌, Bool, true, false, List, [], ◌∷◌, length, Option, Some, None, refl, sym, subst, ◌∙◌, inl, inr, arith}
+use Rattle.std.proofs.Common.{◌≡◌, ℕ, zero, suc, ◌+◌, ◌≤◌, Bool, true, false, List, [], ◌∷◌, length, Option, Some, None, refl, sym, subst, ◌∙◌, inl, inr, arith}
 use Rattle.std.specs.Prelude.{◌⊎◌, slice_get, sum_by}
 use Rattle.std.proofs.lemmas.List.Sums.{sum_by-cons}
 use Rattle.flow_term.specs.declared.term.Term.{Term}
@@ -8,7 +8,7 @@ use Rattle.flow_term.proofs.Sizes.{term_size_out}
 use Rattle.flow_syntax.specs.declared.signature.Constructor.{Constructor}
 use Rattle.flow_syntax.specs.declared.signature.TreeSort.{TreeSort}
 use Rattle.tree_fitting.specs.Children.{MisfitsAmong, MisfitsInChild}
-use Rattle.tree_fitting.specs.Fits.{FitsBelow, MisfitsBelow, child_sort, fits_form, named_sort}
+use Rattle.tree_fitting.specs.Fits.{MisfitsBelow, child_sort, fits_form, named_sort}
 use Rattle.tree_fitting.specs.Laws.{TreeFitsOrMisfits}
 use Rattle.tree_fitting.specs.Least.{IsLeastOf}
 use Rattle.tree_fitting.proofs.ChildLemmas.{NoneBefore, least_child, least_same, none_among, none_more}

@@ -1,10 +1,8 @@
 -- The least misfit of a tree: there is one at most, and none where the tree fits.
-use Rattle.std.proofs.Common.{◌≡◌, ℕ, List, Option, Some, None}
-use Rattle.flow_term.specs.declared.term.Term.{Term}
-use Rattle.flow_syntax.specs.declared.signature.Signature.{Signature}
-use Rattle.tree_fitting.specs.Fits.{Misfits, TreeFits}
+use Rattle.std.proofs.Common.{◌≡◌, ℕ, List, Some, None}
+use Rattle.tree_fitting.specs.Fits.{Misfits}
 use Rattle.tree_fitting.specs.Laws.{FittingTreeHasNoMisfit, LeastMisfitIsUnique}
-use Rattle.tree_fitting.specs.Least.{IsLeastMisfit, IsLeastOf}
+use Rattle.tree_fitting.specs.Least.{IsLeastOf}
 use Rattle.tree_fitting.proofs.OrderLemmas.{same_path}
 
 -- there is one least path at most

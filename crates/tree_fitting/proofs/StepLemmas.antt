@@ -53,5 +53,5 @@ module _ (cs : List Constructor) (sort : TreeSort) (t : Term) where
 pub by_children : MisfitsGoByChildren
 by_children cs sort t = record {
   itself = (misfit_root cs sort t, root_misfits cs sort t);
-  below = λ fits path. ((misfits_among cs sort t fits path).1, (misfits_among cs sort t fits path).0);
+  below = λ n rest. (misfit_child cs sort t n rest, λ h. child_misfits cs sort t n rest h.0 h.1);
 }

@@ -1,11 +1,11 @@
 -- What the definitions say of one another, each law as one sentence.
-use Rattle.std.specs.Prelude.{◌≡◌, ◌↔◌, ◌⊎◌, ℕ, true, false, List, [], Option, Some}
+use Rattle.std.specs.Prelude.{◌≡◌, ◌↔◌, ◌⊎◌, ℕ, true, false, List, [], ◌∷◌, Option, Some}
 use Rattle.flow_term.specs.declared.term.Term.{Term}
 use Rattle.flow_term.specs.Trees.{Put, children}
 use Rattle.flow_syntax.specs.declared.signature.Constructor.{Constructor}
 use Rattle.flow_syntax.specs.declared.signature.Signature.{Signature}
 use Rattle.flow_syntax.specs.declared.signature.TreeSort.{TreeSort}
-use Rattle.tree_fitting.specs.Children.{MisfitsAmong}
+use Rattle.tree_fitting.specs.Children.{MisfitsInChild}
 use Rattle.tree_fitting.specs.Fits.{Misfits, MisfitsBelow, TreeFits, child_sort, fits_form, named_sort}
 use Rattle.tree_fitting.specs.Least.{IsLeastMisfit}
 use Rattle.tree_fitting.specs.Replaced.{MisfitsInNew}
@@ -22,10 +22,10 @@ FittingTreeHasNoMisfit = (signature : Option Signature) (tree : Term) (path : Li
 abbrev pub TreeFitsOrMisfits : Type 0
 TreeFitsOrMisfits = (signature : Option Signature) (tree : Term) → TreeFits signature tree ⊎ ((path : List ℕ) × IsLeastMisfit signature tree path)
 
--- A term misfits itself exactly where its own form doesn't fit. Where it does, the misfits below are those of its children.
+-- A term misfits itself exactly where its own form doesn't fit. Where it does, and only there, the misfits below it are those of its children.
 pub record GoesByChildren (cs : List Constructor) (sort : TreeSort) (t : Term) : Type 0 where
   pub itself : MisfitsBelow cs sort t [] ↔ (fits_form cs sort t ≡ false)
-  pub below : fits_form cs sort t ≡ true → (path : List ℕ) → MisfitsBelow cs sort t path ↔ MisfitsAmong cs (child_sort cs sort t) (children t) path
+  pub below : (n : ℕ) (rest : List ℕ) → MisfitsBelow cs sort t (n ∷ rest) ↔ ((fits_form cs sort t ≡ true) × MisfitsInChild cs (child_sort cs sort t) (children t) n rest)
 
 abbrev pub MisfitsGoByChildren : Type 0
 MisfitsGoByChildren = (cs : List Constructor) (sort : TreeSort) (t : Term) → GoesByChildren cs sort t

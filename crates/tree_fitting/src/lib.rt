@@ -19,8 +19,8 @@ pub fn tree_fits_or_misfits()
     ensures { TreeFitsOrMisfits }
 {}
 
-/// Misfits by recursion: a term misfits itself exactly where its own form doesn't fit, and where it does, the misfits below it are those
-/// of its children, of which the parts of its sort are expected.
+/// Misfits by recursion: a term misfits itself exactly where its own form doesn't fit. Where it does, and only there, the misfits below
+/// it are those of its children, of which the parts of its sort are expected.
 pub fn misfits_go_by_children()
     ensures { MisfitsGoByChildren }
 {}
