@@ -2,7 +2,11 @@
 #![tactic(auto)]
 
 ghost use Rattle.whole_outputs.specs.Laws.{
-  GraphsHaveOneText, RequestsHaveOneOutput, SpecificationsHaveOneAnswer, TreesHaveOneAnswer};
+  GraphsHaveOneText,
+  RequestsHaveOneOutput,
+  SpecificationsHaveOneAnswer,
+  TreesHaveOneAnswer,
+};
 
 /// Over the same files, words have at most one whole output, and it ends in one way.
 pub fn requests_have_one_output()
