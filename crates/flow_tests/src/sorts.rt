@@ -52,9 +52,14 @@ module m control properties p: MaySet((name, pos)) rules p(prev -> x @ F(str s))
 module m control properties p: MaySet(((pos, name), pos)) rules p(prev -> x @ F(str s)) = {((x, s), x)} => Sort at 96
 module m control properties p: Pair(MaySet(name), MaySet(pos)) rules p(prev -> x @ F(name n)) = (n, {x}) => Sort at 97
 module m control node A() properties a: MaySet(str) m: MustSet(name) rules a(prev -> A()) = {x for x in m(prev)} => Sort at 104
+module m control node A() properties a: MustSet(str) m: MaySet(name) rules a(prev -> A()) = {x for x in m(prev)} => Sort at 104
+module m control node A() properties a: MaySet(str) m: MustSet(name) rules a(prev -> A()) = {fst(x) for x in m(prev)} => Sort at 109
+module m control node A() properties a: MaySet(str) b: MaySet(name) rules a(prev -> A()) = {x for x in b(prev)} => Sort at 92
 module m control properties z: Flat(int) A: Map(pos, Flat(int)) rules z(prev -> _) = (A(this) join z(this)) => Sort at 86
 module m control properties z: Map(name, Flat(int)) A: Map(pos, Flat(int)) rules z(prev -> _) = (A(prev)[1 := top]) => Sort at 97
 module m control properties s: MaySet(name) z: MaySet(pos) rules s(prev -> _) = (s(prev) join (z(prev) join z(prev))) => Sort at 95
+module m control properties s: MaySet(name) z: Flat(int) rules s(prev -> _) = ((z(prev) join s(prev)) join s(prev)) => Sort at 80
+module m control properties s: MaySet(name) z: Flat(int) rules z(prev -> _) = (s(prev) union s(prev)) => Sort at 78
 module m control A(B(C(D(E(F(G(H(I(J()))))))))) = entry -> exit => Depth at 17
 module m control properties p: Map(name, Map(name, Map(name, Map(name, Map(name, Map(name, Map(name, Map(name, Flat(int))))))))) => Depth at 28
 "#;
