@@ -4,24 +4,24 @@ use Rattle.std.specs.Prelude.{filter}
 use Rattle.std.proofs.lemmas.Bool.{true≢false, or_cases, or_left, or_right, or_parts, and_parts, and_from, both_ways, false_from_ne_true, cases_Bool, not-true, not_from_false}
 use Rattle.list_theory.specs.Lists.{has, push_all}
 use Rattle.list_theory.proofs.ListLemmas.{has-filter, has-filter_from, has-push_all, push_all_keeps, push_all_there, distinct-push_all, distinct-filter, push_all-nil}
-use Rattle.constraint_theory.specs.Systems.{Fits, ConstraintSystem, IsLawful, Fitting, AllBelow, holds, Equality, IsEquality, IsKey, IsUnknown, Reads}
+use Rattle.constraint_theory.specs.Systems.{Fits, ConstraintSystem, IsMonotone, IsLawful, Fitting, AllBelow, holds, Equality, IsEquality, IsKey, IsUnknown, Reads}
 use Rattle.constraint_theory.specs.Machine.{State, IsSound, IsClosed, joined, replay, replay_from, Legal}
 use Rattle.constraint_theory.specs.Edits.{Movable, Change, IsEdit, IsTaint, IsTainted, IsRegion, IsReach, AreEditedValues, stays, unknown_stays, renewed, edited, edit_bound}
 use Rattle.constraint_theory.proofs.LeastLemmas as theory
-use Rattle.constraint_theory.proofs.VisitLemmas as visits
+use Rattle.constraint_theory.proofs.BoundLemmas as bounds
 
-module _ {K U V : Type 0} (same : Equality K U) (tells : IsEquality same) (s t : ConstraintSystem K U V) (e : Change K U V) (old : IsLawful same s) (new : IsLawful same t) (edit : IsEdit same s t e) where
-  known_before : (k : K) → stays same s t e k ≡ true → IsKey same s k
+module _ {K U V : Type 0} (same : Equality K U) (tells : IsEquality same) (s t : ConstraintSystem K U V) (e : Change K U V) (old : IsMonotone same s) (new : IsMonotone same t) (edit : IsEdit same s t e) where
+  pub known_before : (k : K) → stays same s t e k ≡ true → IsKey same s k
   known_before k h = (and_parts (has same.key s.keys k) (not (has same.key e.gone k)) h).0
 
-  used_before : (u : U) → unknown_stays same s t e u ≡ true → IsUnknown same s u
+  pub used_before : (u : U) → unknown_stays same s t e u ≡ true → IsUnknown same s u
   used_before u h = (and_parts (has same.unknown s.unknowns u) (not (has same.unknown e.gone_unknowns u)) h).0
 
-  known_after : (k : K) → stays same s t e k ≡ true → IsKey same t k
-  known_after k h = edit.keys k ∙ or_left (stays same s t e k) (has same.key e.added k) h
+  pub known_after : (k : K) → stays same s t e k ≡ true → IsKey same t k
+  known_after k h = edit.lists.keys k ∙ or_left (stays same s t e k) (has same.key e.added k) h
 
-  used_after : (u : U) → unknown_stays same s t e u ≡ true → IsUnknown same t u
-  used_after u h = edit.unknowns u ∙ or_left (unknown_stays same s t e u) (has same.unknown e.added_unknowns u) h
+  pub used_after : (u : U) → unknown_stays same s t e u ≡ true → IsUnknown same t u
+  used_after u h = edit.lists.unknowns u ∙ or_left (unknown_stays same s t e u) (has same.unknown e.added_unknowns u) h
 
   module _ (taint : U → Bool) where
     -- old values and new ones: shifted where there is no taint, and least where there is
@@ -65,9 +65,11 @@ module _ {K U V : Type 0} (same : Equality K U) (tells : IsEquality same) (s t :
         let value : t.eval k b ≡ e.shift (s.eval k a) = edit.shift_eval k a b here r.fits r.fits_new movable_reads (λ u read. r.shifted u (edit.reads_stay k u here read) (clean_reads u read)) in
         let fits_value : Fits s (s.target k) (s.eval k a) = old.eval_fits k a known r.fits in
         let movable_value : Movable e (s.eval k a) = edit.eval_movable k a here r.fits movable_reads in
+        let fits_old : Fits t (s.target k) (e.shift (a (s.target k))) = rw (← r.shifted (s.target k) used clean) (r.fits_new (s.target k) (used_after (s.target k) used)) in
+        let fits_shifted : Fits t (s.target k) (e.shift (s.eval k a)) = rw (← value, ← target) (new.eval_fits k b known_new r.fits_new) in
         let at_target : t.join (s.target k) (b (s.target k)) (t.eval k b) ≡ e.shift (s.join (s.target k) (a (s.target k)) (s.eval k a)) =
         ap (λ x. t.join (s.target k) x (t.eval k b)) (r.shifted (s.target k) used clean) ∙ ap (t.join (s.target k) (e.shift (a (s.target k)))) value
-        ∙ sym (edit.shift_join (s.target k) (a (s.target k)) (s.eval k a) used (r.fits (s.target k) used_s) fits_value (r.movable (s.target k) used clean) movable_value) in
+        ∙ sym (edit.shift_join (s.target k) (a (s.target k)) (s.eval k a) used (r.fits (s.target k) used_s) fits_value (r.movable (s.target k) used clean) movable_value fits_old fits_shifted) in
         let new_here : joined same t b k (s.target k) ≡ e.shift (joined same s a k (s.target k)) =
         ap (joined same t b k) (sym target) ∙ theory.joined_here same tells t new b k ∙ ap (λ w. t.join w (b w) (t.eval k b)) target ∙ at_target ∙ ap e.shift (sym (theory.joined_here same tells s old a k)) in
         record {
@@ -87,7 +89,7 @@ module _ {K U V : Type 0} (same : Equality K U) (tells : IsEquality same) (s t :
 
     module _ (steps : List K) (closed : IsTaint same s t e steps taint) (all_known : (k : K) → has same.key steps k ≡ true → IsKey same s k) where
       -- a kept step isn't gone and reads no taint
-      kept_stays : (k : K) → has same.key steps k ≡ true → taint (s.target k) ≡ false → stays same s t e k ≡ true
+      pub kept_stays : (k : K) → has same.key steps k ≡ true → taint (s.target k) ≡ false → stays same s t e k ≡ true
       kept_stays k h clean = and_from (has same.key s.keys k) (not (has same.key e.gone k)) (all_known k h) (not_from_false (has same.key e.gone k) (false_from_ne_true (has same.key e.gone k) (λ g. both_ways (taint (s.target k)) clean (closed.from_gone k h g))))
 
       kept_reads : (k : K) (u : U) → has same.key steps k ≡ true → taint (s.target k) ≡ false → Reads same s k u → taint u ≡ false
@@ -116,7 +118,7 @@ module _ {K U V : Type 0} (same : Equality K U) (tells : IsEquality same) (s t :
 
       -- and at one that is added
       pub value_added : (u : U) → has same.unknown e.added_unknowns u ≡ true → replay same t (filter (λ k. not (taint (s.target k))) steps) u ≡ t.bottom u
-      value_added u added = related.least u (inl (false_from_ne_true (unknown_stays same s t e u) (λ h. both_ways (has same.unknown s.unknowns u) (edit.unknowns_new u added) (used_before u h))))
+      value_added u added = related.least u (inl (false_from_ne_true (unknown_stays same s t e u) (λ h. both_ways (has same.unknown s.unknowns u) (edit.lists.unknowns_new u added) (used_before u h))))
 
       pub edited_values : AreEditedValues same s t e taint (replay same s steps) (replay same t (filter (λ k. not (taint (s.target k))) steps))
       edited_values = record { kept = value_kept; reset = value_reset; added = value_added }
@@ -147,6 +149,8 @@ module _ {K U V : Type 0} (same : Equality K U) (tells : IsEquality same) (s t :
           let value : t.eval k (replay same t (filter (λ j. not (taint (s.target j))) steps)) ≡ e.shift (s.eval k (λ u. cond (taint u) (s.bottom u) (replay same s steps u))) =
           edit.shift_eval k (λ u. cond (taint u) (s.bottom u) (replay same s steps u)) (replay same t (filter (λ j. not (taint (s.target j))) steps)) here fits_lower related.fits_new movable shifted in
           let fits_value : Fits s (s.target k) (s.eval k (λ u. cond (taint u) (s.bottom u) (replay same s steps u))) = old.eval_fits k (λ u. cond (taint u) (s.bottom u) (replay same s steps u)) known fits_lower in
+          let fits_shifted : Fits t (s.target k) (e.shift (s.eval k (λ u. cond (taint u) (s.bottom u) (replay same s steps u)))) = rw (← value, ← target) (new.eval_fits k (replay same t (filter (λ j. not (taint (s.target j))) steps)) (known_after k here) related.fits_new) in
+          let fits_old : Fits t (s.target k) (e.shift (replay same s steps (s.target k))) = rw (← related.shifted (s.target k) used clean) (related.fits_new (s.target k) (used_after (s.target k) used)) in
           let smaller : s.leq (s.target k) (s.eval k (λ u. cond (taint u) (s.bottom u) (replay same s steps u))) (replay same s steps (s.target k)) ≡ true =
           theory.leq_trans same tells s old (s.target k) (s.eval k (λ u. cond (taint u) (s.bottom u) (replay same s steps u))) (s.eval k (replay same s steps)) (replay same s steps (s.target k)) used_s fits_value (old.eval_fits k (replay same s steps) known related.fits) (related.fits (s.target k) used_s)
           (old.eval_monotone k (λ u. cond (taint u) (s.bottom u) (replay same s steps u)) (replay same s steps) known fits_lower related.fits below) h in
@@ -154,9 +158,9 @@ module _ {K U V : Type 0} (same : Equality K U) (tells : IsEquality same) (s t :
           ∙ ap (λ v. t.leq (s.target k) v (replay same t (filter (λ j. not (taint (s.target j))) steps) (s.target k))) value
           ∙ ap (t.leq (s.target k) (e.shift (s.eval k (λ u. cond (taint u) (s.bottom u) (replay same s steps u))))) (related.shifted (s.target k) used clean)
           ∙ edit.shift_leq (s.target k) (s.eval k (λ u. cond (taint u) (s.bottom u) (replay same s steps u))) (replay same s steps (s.target k)) used fits_value (related.fits (s.target k) used_s)
-          (edit.eval_movable k (λ u. cond (taint u) (s.bottom u) (replay same s steps u)) here fits_lower movable) (related.movable (s.target k) used clean) smaller
+          (edit.eval_movable k (λ u. cond (taint u) (s.bottom u) (replay same s steps u)) here fits_lower movable) (related.movable (s.target k) used clean) fits_shifted fits_old smaller
 
-    renewed_known : (taint' : U → Bool) (k : K) → has same.key (renewed same s t e taint') k ≡ true → IsKey same t k
+    pub renewed_known : (taint' : U → Bool) (k : K) → has same.key (renewed same s t e taint') k ≡ true → IsKey same t k
     renewed_known taint' k h = (has-filter same.key tells.keys (λ j. has same.key e.added j || taint' (t.target j)) t.keys k h).0
 
     -- the machine's edit keeps a state sound
@@ -174,7 +178,7 @@ module _ {K U V : Type 0} (same : Equality K U) (tells : IsEquality same) (s t :
       satisfied = λ k known n.
           let not_renewed : has same.key (renewed same s t e taint) k ≡ false = false_from_ne_true (has same.key (renewed same s t e taint) k) (λ w. both_ways (has same.key (edited same s t e taint st).waiting k) n (push_all_there same.key tells.keys (renewed same s t e taint) (filter (λ j. not (has same.key e.gone j)) st.waiting) k w)) in
           let why : (has same.key e.added k ≡ false) × (taint (t.target k) ≡ false) = or_parts (has same.key e.added k) (taint (t.target k)) (false_from_ne_true (has same.key e.added k || taint (t.target k)) (λ p. both_ways (has same.key (renewed same s t e taint) k) not_renewed (has-filter_from same.key tells.keys (λ j. has same.key e.added j || taint (t.target j)) t.keys k known p))) in
-          let here : stays same s t e k ≡ true = elim (or_cases (stays same s t e k) (has same.key e.added k) (sym (edit.keys k) ∙ known)) [ inl p ↦ p | inr p ↦ absurd (both_ways (has same.key e.added k) why.0 p) ] in
+          let here : stays same s t e k ≡ true = elim (or_cases (stays same s t e k) (has same.key e.added k) (sym (edit.lists.keys k) ∙ known)) [ inl p ↦ p | inr p ↦ absurd (both_ways (has same.key e.added k) why.0 p) ] in
           let kept_key : not (has same.key e.gone k) ≡ true = (and_parts (has same.key s.keys k) (not (has same.key e.gone k)) here).1 in
           let idle : has same.key st.waiting k ≡ false = false_from_ne_true (has same.key st.waiting k) (λ w. both_ways (has same.key (edited same s t e taint st).waiting k) n (push_all_keeps same.key tells.keys (renewed same s t e taint) (filter (λ j. not (has same.key e.gone j)) st.waiting) k (has-filter_from same.key tells.keys (λ j. not (has same.key e.gone j)) st.waiting k w kept_key))) in
           holds_after st.steps closed sound.steps_known k here (ap taint (sym (edit.same_target k here)) ∙ why.1) (sound.satisfied k (known_before k here) idle);
@@ -210,20 +214,22 @@ module _ {K U V : Type 0} (same : Equality K U) (tells : IsEquality same) (s t :
           | false ↦ λ _. elim (has same.key e.added k || region (t.target k)) as (λ w. length (filter (λ j. has same.key e.added j || taint (t.target j)) ks) ≤ length (cond w (k ∷ filter (λ j. has same.key e.added j || region (t.target j)) ks) (filter (λ j. has same.key e.added j || region (t.target j)) ks))) [ true ↦ omega (arith, renewed_fewer region sub ks) | false ↦ renewed_fewer region sub ks ]
         ] refl
 
-    -- after an edit of a sound state in which nothing waits, few visits follow
-    pub visits_after : (region reach : U → Bool) (st : State K) (ks : List K) → IsSound same s st → st.waiting ≡ [] → IsTainted same s t e st.steps taint → IsRegion same s t e region → IsReach same s t e region reach → Legal same t (edited same s t e taint st) ks → length ks ≤ edit_bound same s t e region reach
-    visits_after region reach st ks sound rest least r reached legal =
-        let sub : (u : U) → taint u ≡ true → region u ≡ true = taint_in_region st.steps region least r sound.steps_known in
-        let waits : (edited same s t e taint st).waiting ≡ renewed same s t e taint = ap (λ w. push_all same.key (filter (λ j. not (has same.key e.gone j)) w) (renewed same s t e taint)) rest ∙ push_all-nil same.key tells.keys (renewed same s t e taint) (distinct-filter same.key tells.keys (λ k. has same.key e.added k || taint (t.target k)) t.keys new.keys_once) in
-        let in_region : (k : K) → has same.key (renewed same s t e taint) k ≡ true → has same.key (renewed same s t e region) k ≡ true = λ k h.
-        let p : (IsKey same t k) × ((has same.key e.added k || taint (t.target k)) ≡ true) = has-filter same.key tells.keys (λ j. has same.key e.added j || taint (t.target j)) t.keys k h in
-        has-filter_from same.key tells.keys (λ j. has same.key e.added j || region (t.target j)) t.keys k p.0 (elim (or_cases (has same.key e.added k) (taint (t.target k)) p.1) [ inl a ↦ or_left (has same.key e.added k) (region (t.target k)) a | inr b ↦ or_right (has same.key e.added k) (region (t.target k)) (sub (t.target k) b) ]) in
-        let closed : IsClosed same t (filter reach t.unknowns) (edited same s t e taint st).waiting = record {
-          in_use = λ u h. (has-filter same.unknown tells.unknowns reach t.unknowns u h).0;
-          targets = λ k h. let w : has same.key (renewed same s t e taint) k ≡ true = ap (λ ws. has same.key ws k) (sym waits) ∙ h in
-              has-filter_from same.unknown tells.unknowns reach t.unknowns (t.target k) (new.target_used k (renewed_known taint k w)) (reached.from_renewed k (in_region k w));
-          readers_too = λ u k h read.
-              let p : (IsKey same t k) × (Reads same t k u) = has-filter same.key tells.keys (λ j. has same.unknown (t.reads j) u) t.keys k read in
-              has-filter_from same.unknown tells.unknowns reach t.unknowns (t.target k) (new.target_used k p.0) (reached.along k u p.0 p.1 (has-filter same.unknown tells.unknowns reach t.unknowns u h).1);
-        } in
-        omega (arith, visits.visits_bounded same tells t new (filter reach t.unknowns) ks (edited same s t e taint st) (sound_edited st sound least.0) closed legal, ap length waits, renewed_fewer region sub t.keys)
+-- where ranks end at heights after the edit, few visits follow it
+module _ {K U V : Type 0} (same : Equality K U) (tells : IsEquality same) (s t : ConstraintSystem K U V) (e : Change K U V) (old : IsMonotone same s) (new : IsLawful same t) (edit : IsEdit same s t e) (taint : U → Bool) where
+  -- after an edit of a sound state in which nothing waits, few visits follow
+  pub visits_after : (region reach : U → Bool) (st : State K) (ks : List K) → IsSound same s st → st.waiting ≡ [] → IsTainted same s t e st.steps taint → IsRegion same s t e region → IsReach same s t e region reach → Legal same t (edited same s t e taint st) ks → length ks ≤ edit_bound same s t e region reach
+  visits_after region reach st ks sound rest least r reached legal =
+      let sub : (u : U) → taint u ≡ true → region u ≡ true = taint_in_region same tells s t e old new.monotone edit taint st.steps region least r sound.steps_known in
+      let waits : (edited same s t e taint st).waiting ≡ renewed same s t e taint = ap (λ w. push_all same.key (filter (λ j. not (has same.key e.gone j)) w) (renewed same s t e taint)) rest ∙ push_all-nil same.key tells.keys (renewed same s t e taint) (distinct-filter same.key tells.keys (λ k. has same.key e.added k || taint (t.target k)) t.keys new.monotone.keys_once) in
+      let in_region : (k : K) → has same.key (renewed same s t e taint) k ≡ true → has same.key (renewed same s t e region) k ≡ true = λ k h.
+      let p : (IsKey same t k) × ((has same.key e.added k || taint (t.target k)) ≡ true) = has-filter same.key tells.keys (λ j. has same.key e.added j || taint (t.target j)) t.keys k h in
+      has-filter_from same.key tells.keys (λ j. has same.key e.added j || region (t.target j)) t.keys k p.0 (elim (or_cases (has same.key e.added k) (taint (t.target k)) p.1) [ inl a ↦ or_left (has same.key e.added k) (region (t.target k)) a | inr b ↦ or_right (has same.key e.added k) (region (t.target k)) (sub (t.target k) b) ]) in
+      let closed : IsClosed same t (filter reach t.unknowns) (edited same s t e taint st).waiting = record {
+        in_use = λ u h. (has-filter same.unknown tells.unknowns reach t.unknowns u h).0;
+        targets = λ k h. let w : has same.key (renewed same s t e taint) k ≡ true = ap (λ ws. has same.key ws k) (sym waits) ∙ h in
+            has-filter_from same.unknown tells.unknowns reach t.unknowns (t.target k) (new.monotone.target_used k (renewed_known same tells s t e old new.monotone edit taint taint k w)) (reached.from_renewed k (in_region k w));
+        readers_too = λ u k h read.
+            let p : (IsKey same t k) × (Reads same t k u) = has-filter same.key tells.keys (λ j. has same.unknown (t.reads j) u) t.keys k read in
+            has-filter_from same.unknown tells.unknowns reach t.unknowns (t.target k) (new.monotone.target_used k p.0) (reached.along k u p.0 p.1 (has-filter same.unknown tells.unknowns reach t.unknowns u h).1);
+      } in
+      omega (arith, bounds.visits_bounded same tells t new (filter reach t.unknowns) ks (edited same s t e taint st) (sound_edited same tells s t e old new.monotone edit taint st sound least.0) closed legal, ap length waits, renewed_fewer same tells s t e old new.monotone edit taint region sub t.keys)

@@ -1,12 +1,12 @@
 -- What the laws of a system give of the machine: values below each solution, the least solution at rest, and a bound on visits.
-use Rattle.std.proofs.Common.{◌≡◌, true, false, cond, ◌||◌, List, [], ◌∷◌, ◌++◌, refl, sym, ap, ◌∙◌, inl, inr}
+use Rattle.std.proofs.Common.{◌≡◌, Bool, true, false, cond, ◌||◌, List, [], ◌∷◌, ◌++◌, refl, sym, ap, ◌∙◌, inl, inr}
 use Rattle.std.proofs.lemmas.Bool.{true≢false, or_cases, or_left, or_right, both_ways}
 use Rattle.list_theory.specs.Lists.{has}
-use Rattle.constraint_theory.specs.Systems.{Fits, ConstraintSystem, IsLawful, IsLeast, Fitting, AllBelow, Satisfies, Equality, IsEquality, IsKey, IsUnknown}
+use Rattle.constraint_theory.specs.Systems.{Fits, ConstraintSystem, IsMonotone, IsNarrower, with_test, IsLeast, Fitting, AllBelow, Satisfies, Equality, IsEquality, IsKey, IsUnknown}
 use Rattle.constraint_theory.specs.Machine.{State, IsSound, joined, replay, replay_from, begin}
 use Rattle.list_theory.proofs.ListLemmas.{has-append}
 
-module _ {K U V : Type 0} (same : Equality K U) (tells : IsEquality same) (s : ConstraintSystem K U V) (law : IsLawful same s) where
+module _ {K U V : Type 0} (same : Equality K U) (tells : IsEquality same) (s : ConstraintSystem K U V) (law : IsMonotone same s) where
   -- the order at an unknown in use
   pub leq_refl : (u : U) (a : V) → IsUnknown same s u → Fits s u a → s.leq u a a ≡ true
   leq_refl u a used fa = law.join_leq u a a used fa fa (law.idempotent u a used fa)
@@ -132,3 +132,35 @@ module _ {K U V : Type 0} (same : Equality K U) (tells : IsEquality same) (s : C
   pub least_unique : (a b : U → V) → IsLeast same s a → IsLeast same s b → (u : U) → IsUnknown same s u → a u ≡ b u
   least_unique a b la lb u used =
       antisymmetric u (a u) (b u) used (la.fits u used) (lb.fits u used) (la.below_others b lb.fits lb.satisfies u used) (lb.below_others a la.fits la.satisfies u used)
+
+-- where values that fit are valid, and what gives values keeps to them, the laws of order hold of them
+module _ {K U V : Type 0} (same : Equality K U) (s : ConstraintSystem K U V) (valid : U → V → Bool) (law : IsMonotone same (with_test s valid)) where
+  pub narrower_monotone : IsNarrower same s valid → IsMonotone same s
+  narrower_monotone narrow = record {
+    keys_once = law.keys_once;
+    target_used = law.target_used;
+    reads_used = law.reads_used;
+    bottom_fits = narrow.bottom_fits;
+    join_fits = narrow.join_fits;
+    eval_fits = narrow.eval_fits;
+    leq_join = λ u a b used fa fb. law.leq_join u a b used (narrow.valid_too u a used fa) (narrow.valid_too u b used fb);
+    join_leq = λ u a b used fa fb. law.join_leq u a b used (narrow.valid_too u a used fa) (narrow.valid_too u b used fb);
+    idempotent = λ u a used fa. law.idempotent u a used (narrow.valid_too u a used fa);
+    commutative = λ u a b used fa fb. law.commutative u a b used (narrow.valid_too u a used fa) (narrow.valid_too u b used fb);
+    associative = λ u a b c used fa fb fc. law.associative u a b c used (narrow.valid_too u a used fa) (narrow.valid_too u b used fb) (narrow.valid_too u c used fc);
+    neutral = λ u a used fa. law.neutral u a used (narrow.valid_too u a used fa);
+    eval_monotone = λ k a b known fa fb. law.eval_monotone k a b known (λ u used. narrow.valid_too u (a u) used (fa u used)) (λ u used. narrow.valid_too u (b u) used (fb u used));
+    eval_reads = λ k a b known fa fb. law.eval_reads k a b known (λ u used. narrow.valid_too u (a u) used (fa u used)) (λ u used. narrow.valid_too u (b u) used (fb u used));
+  }
+
+  -- soundness speaks of no test, and the values are the same whatever fits
+  sound_valid : (st : State K) → IsSound same s st → IsSound same (with_test s valid) st
+  sound_valid st sound = record { steps_known = sound.steps_known; waiting_known = sound.waiting_known; waiting_once = sound.waiting_once; satisfied = sound.satisfied }
+
+  replay_valid : (a : U → V) (ks : List K) → replay_from same s a ks ≡ replay_from same (with_test s valid) a ks
+  replay_valid a [] = refl
+  replay_valid a (k ∷ ks) = replay_valid (joined same s a k) ks
+
+  -- so at rest the values are the least of the valid solutions
+  pub least_valid : IsEquality same → (st : State K) → IsSound same s st → ((k : K) → has same.key st.waiting k ≡ false) → IsLeast same (with_test s valid) (replay same s st.steps)
+  least_valid tells st sound rest = rw (replay_valid s.bottom st.steps) (least_at_rest same tells (with_test s valid) law st (sound_valid st sound) rest)

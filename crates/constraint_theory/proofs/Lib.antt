@@ -1,3 +1,4 @@
+pub mod BoundLemmas
 pub mod EditLemmas
 pub mod LeastLemmas
 pub mod NumberLemmas

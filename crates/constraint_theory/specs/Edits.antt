@@ -28,15 +28,19 @@ module _ {K U V : Type 0} (same : Equality K U) (s t : ConstraintSystem K U V) (
   abbrev pub unknown_stays : U → Bool
   unknown_stays u = has same.unknown s.unknowns u && not (has same.unknown e.gone_unknowns u)
 
-  -- The laws of an edit: what is in use after it; that nothing which stays aims at or reads what is gone; that what
-  -- stays has its target and reads, so that whatever aims at or reads a new unknown is new; and that renaming keeps
-  -- bottom, joins, the order and what constraints give.
-  pub record IsEdit : Type 0 where
+  -- What is in use after an edit: what stays and what is added. What is added wasn't in use, and each key that is gone was.
+  pub record ChangesLists : Type 0 where
     pub keys : (k : K) → has same.key t.keys k ≡ (stays k || has same.key e.added k)
     pub unknowns : (u : U) → has same.unknown t.unknowns u ≡ (unknown_stays u || has same.unknown e.added_unknowns u)
     pub keys_new : (k : K) → has same.key e.added k ≡ true → has same.key s.keys k ≡ false
     pub unknowns_new : (u : U) → has same.unknown e.added_unknowns u ≡ true → has same.unknown s.unknowns u ≡ false
     pub gone_known : (k : K) → has same.key e.gone k ≡ true → IsKey same s k
+
+  -- The laws of an edit: how the lists change; that nothing which stays aims at or reads what is gone; that what stays has
+  -- its target and reads, so that whatever aims at or reads a new unknown is new; and that renaming keeps bottom, joins,
+  -- the order and what constraints give, where the renamed values fit.
+  pub record IsEdit : Type 0 where
+    pub lists : ChangesLists
     pub target_stays : (k : K) → stays k ≡ true → unknown_stays (s.target k) ≡ true
     pub reads_stay : (k : K) (u : U) → stays k ≡ true → Reads same s k u → unknown_stays u ≡ true
     pub same_target : (k : K) → stays k ≡ true → t.target k ≡ s.target k
@@ -45,8 +49,8 @@ module _ {K U V : Type 0} (same : Equality K U) (s t : ConstraintSystem K U V) (
     pub join_movable : (u : U) (a b : V) → unknown_stays u ≡ true → Fits s u a → Fits s u b → Movable e a → Movable e b → Movable e (s.join u a b)
     pub eval_movable : (k : K) (a : U → V) → stays k ≡ true → Fitting same s a → ((u : U) → Reads same s k u → Movable e (a u)) → Movable e (s.eval k a)
     pub shift_bottom : (u : U) → unknown_stays u ≡ true → t.bottom u ≡ e.shift (s.bottom u)
-    pub shift_join : (u : U) (a b : V) → unknown_stays u ≡ true → Fits s u a → Fits s u b → Movable e a → Movable e b → e.shift (s.join u a b) ≡ t.join u (e.shift a) (e.shift b)
-    pub shift_leq : (u : U) (a b : V) → unknown_stays u ≡ true → Fits s u a → Fits s u b → Movable e a → Movable e b → s.leq u a b ≡ true → t.leq u (e.shift a) (e.shift b) ≡ true
+    pub shift_join : (u : U) (a b : V) → unknown_stays u ≡ true → Fits s u a → Fits s u b → Movable e a → Movable e b → Fits t u (e.shift a) → Fits t u (e.shift b) → e.shift (s.join u a b) ≡ t.join u (e.shift a) (e.shift b)
+    pub shift_leq : (u : U) (a b : V) → unknown_stays u ≡ true → Fits s u a → Fits s u b → Movable e a → Movable e b → Fits t u (e.shift a) → Fits t u (e.shift b) → s.leq u a b ≡ true → t.leq u (e.shift a) (e.shift b) ≡ true
     pub shift_eval : (k : K) (a b : U → V) → stays k ≡ true → Fitting same s a → Fitting same t b → ((u : U) → Reads same s k u → Movable e (a u)) → ((u : U) → Reads same s k u → b u ≡ e.shift (a u)) → t.eval k b ≡ e.shift (s.eval k a)
 
   -- a set that holds the target of each gone step and, with an unknown, the target of each step that reads it

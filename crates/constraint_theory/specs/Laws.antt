@@ -1,17 +1,29 @@
 -- The laws of solving and of editing, each as one sentence over a system.
 use Rattle.std.specs.Prelude.{◌≡◌, ◌<◌, ◌≤◌, Bool, true, false, List, [], length}
 use Rattle.list_theory.specs.Lists.{has}
-use Rattle.constraint_theory.specs.Systems.{Equality, IsEquality, ConstraintSystem, IsLawful, IsKey, IsUnknown, Satisfies, IsLeast, bound}
+use Rattle.constraint_theory.specs.Systems.{Equality, IsEquality, ConstraintSystem, IsMonotone, IsLawful, IsNarrower, with_test, IsKey, IsUnknown, Satisfies, IsLeast, bound}
 use Rattle.constraint_theory.specs.Machine.{State, IsSound, IsClosed, Legal, after, begin, replay, bound_within}
 use Rattle.constraint_theory.specs.Edits.{Change, IsEdit, IsTaint, IsTainted, IsRegion, IsReach, AreEditedValues, edited, edit_bound, unknown_stays}
 
--- the sentence holds of each system that meets the laws
+-- the sentence holds of each monotone system, whatever its heights and ranks
+abbrev pub ForMonotone : (K U V : Type 0) → (Equality K U → ConstraintSystem K U V → Type 0) → Type 0
+ForMonotone K U V P = (same : Equality K U) (s : ConstraintSystem K U V) → IsEquality same → IsMonotone same s → P same s
+
+-- the sentence holds of each system that is monotone on all values that pass a test of their own, its own test aside
+abbrev pub ForTests : (K U V : Type 0) → (Equality K U → ConstraintSystem K U V → (U → V → Bool) → Type 0) → Type 0
+ForTests K U V P = (same : Equality K U) (s : ConstraintSystem K U V) (valid : U → V → Bool) → IsEquality same → IsMonotone same (with_test s valid) → P same s valid
+
+-- the sentence holds of each system that meets the laws of order and of ranks
 abbrev pub ForSystems : (K U V : Type 0) → (Equality K U → ConstraintSystem K U V → Type 0) → Type 0
 ForSystems K U V P = (same : Equality K U) (s : ConstraintSystem K U V) → IsEquality same → IsLawful same s → P same s
 
--- the sentence holds of each edit that leads from such a system to another
+-- the sentence holds of each edit that leads from a monotone system to another
 abbrev pub ForEdits : (K U V : Type 0) → (Equality K U → ConstraintSystem K U V → ConstraintSystem K U V → Change K U V → Type 0) → Type 0
-ForEdits K U V P = (same : Equality K U) (s t : ConstraintSystem K U V) (e : Change K U V) → IsEquality same → IsLawful same s → IsLawful same t → IsEdit same s t e → P same s t e
+ForEdits K U V P = (same : Equality K U) (s t : ConstraintSystem K U V) (e : Change K U V) → IsEquality same → IsMonotone same s → IsMonotone same t → IsEdit same s t e → P same s t e
+
+-- the sentence holds of each such edit to a system that meets the laws of ranks too
+abbrev pub ForRankedEdits : (K U V : Type 0) → (Equality K U → ConstraintSystem K U V → ConstraintSystem K U V → Change K U V → Type 0) → Type 0
+ForRankedEdits K U V P = (same : Equality K U) (s t : ConstraintSystem K U V) (e : Change K U V) → IsEquality same → IsMonotone same s → IsLawful same t → IsEdit same s t e → P same s t e
 
 module _ {K U V : Type 0} (same : Equality K U) (s : ConstraintSystem K U V) where
   -- in a sound state in which nothing waits the values are the least solution
@@ -49,6 +61,15 @@ module _ {K U V : Type 0} (same : Equality K U) (s : ConstraintSystem K U V) whe
   -- nor is one from any sound state
   abbrev pub VisitsFromSound : Type 0
   VisitsFromSound = (st : State K) (ks : List K) → IsSound same s st → Legal same s st ks → length ks ≤ bound same s
+
+module _ {K U V : Type 0} (same : Equality K U) (s : ConstraintSystem K U V) (valid : U → V → Bool) where
+  -- in a sound state in which nothing waits the values are the least of all valid solutions, whatever fits the system
+  abbrev pub SettledIsLeastOfValid : Type 0
+  SettledIsLeastOfValid = (st : State K) → IsSound same s st → st.waiting ≡ [] → IsLeast same (with_test s valid) (replay same s st.steps)
+
+  -- where fewer values fit, and bottom, joins and constraints keep to them, the system is monotone on these too
+  abbrev pub NarrowerIsMonotone : Type 0
+  NarrowerIsMonotone = IsNarrower same s valid → IsMonotone same s
 
 module _ {K U V : Type 0} (same : Equality K U) (s t : ConstraintSystem K U V) (e : Change K U V) where
   -- the machine's edit keeps a state sound

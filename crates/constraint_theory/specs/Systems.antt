@@ -83,9 +83,9 @@ module _ {K U V : Type 0} (same : Equality K U) (s : ConstraintSystem K U V) whe
   abbrev pub bound : ℕ
   bound = length s.keys + sum_by (λ u. s.height u * length (readers u)) s.unknowns
 
-  -- the laws of a system: a join lattice at each unknown, on the values that fit; constraints that are monotone and
-  -- depend on what they read alone; ranks that rise with the value and end at the height
-  pub record IsLawful : Type 0 where
+  -- The laws of order: no key stands twice; targets and reads are in use; a join lattice at each unknown, on the values
+  -- that fit; constraints that are monotone on them and depend on what they read alone. A least solution needs no more.
+  pub record IsMonotone : Type 0 where
     pub keys_once : distinct same.key s.keys ≡ true
     pub target_used : (k : K) → IsKey k → IsUnknown (s.target k)
     pub reads_used : (k : K) (u : U) → IsKey k → Reads k u → IsUnknown u
@@ -100,8 +100,27 @@ module _ {K U V : Type 0} (same : Equality K U) (s : ConstraintSystem K U V) whe
     pub neutral : (u : U) (a : V) → IsUnknown u → Fits s u a → s.join u (s.bottom u) a ≡ a
     pub eval_monotone : (k : K) (a b : U → V) → IsKey k → Fitting a → Fitting b → AllBelow a b → s.leq (s.target k) (s.eval k a) (s.eval k b) ≡ true
     pub eval_reads : (k : K) (a b : U → V) → IsKey k → Fitting a → Fitting b → ((u : U) → Reads k u → a u ≡ b u) → s.eval k a ≡ s.eval k b
+
+  -- the laws of ranks: on the values that fit, a rank is at most the height, and rises strictly with the value
+  pub record AreRanks : Type 0 where
     pub rank_within : (u : U) (a : V) → IsUnknown u → Fits s u a → s.rank u a ≤ s.height u
     pub rank_rises : (u : U) (a b : V) → IsUnknown u → Fits s u a → Fits s u b → s.leq u a b ≡ true → s.leq u b a ≡ false → s.rank u a < s.rank u b
+
+  -- a system that is monotone, and whose values can rise no more often than its heights say
+  pub record IsLawful : Type 0 where
+    pub monotone : IsMonotone
+    pub ranks : AreRanks
+
+-- the system with another test of which values fit
+abbrev pub with_test : {K U V : Type 0} → ConstraintSystem K U V → (U → V → Bool) → ConstraintSystem K U V
+with_test s test = record s { fits = test }
+
+-- The values that fit are valid by a wider test, bottom fits, and joins and constraints keep to what fits.
+pub record IsNarrower {K U V : Type 0} (same : Equality K U) (s : ConstraintSystem K U V) (valid : U → V → Bool) : Type 0 where
+  pub valid_too : (u : U) (a : V) → IsUnknown same s u → Fits s u a → valid u a ≡ true
+  pub bottom_fits : (u : U) → IsUnknown same s u → Fits s u (s.bottom u)
+  pub join_fits : (u : U) (a b : V) → IsUnknown same s u → Fits s u a → Fits s u b → Fits s u (s.join u a b)
+  pub eval_fits : (k : K) (a : U → V) → IsKey same s k → Fitting same s a → Fits s (s.target k) (s.eval k a)
 
 -- the order at an unknown is that of a lattice with these valid values, bottom and joins
 pub record IsOver {K U V : Type 0} (s : ConstraintSystem K U V) (u : U) (Valid : V → Type 0) (least : V) (joined : V → V → V) : Type 0 where

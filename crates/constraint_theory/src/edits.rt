@@ -1,5 +1,5 @@
 //! What an edit of the system leaves of a state, and how many visits follow it.
-ghost use Rattle.constraint_theory.specs.Laws.{ForEdits, EditKeepsSound, EditRenamesValues, IdleGoneTaintsNothing, TaintLiesInRegion, VisitsAfterEdit};
+ghost use Rattle.constraint_theory.specs.Laws.{ForEdits, ForRankedEdits, EditKeepsSound, EditRenamesValues, IdleGoneTaintsNothing, TaintLiesInRegion, VisitsAfterEdit};
 
 /// The machine's edit keeps a state sound.
 pub fn edit_keeps_sound<K, U, V>()
@@ -24,5 +24,5 @@ pub fn taint_lies_in_region<K, U, V>()
 /// After an edit of a sound state in which nothing waits, no legal list of visits is longer than the edit's bound: the
 /// one law on visits over the unknowns that the edit reaches.
 pub fn visits_after_edit<K, U, V>()
-    ensures { ForEdits K U V VisitsAfterEdit }
+    ensures { ForRankedEdits K U V VisitsAfterEdit }
 {}

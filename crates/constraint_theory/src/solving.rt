@@ -1,29 +1,41 @@
 //! What visits lead to, and how many there can be.
-ghost use Rattle.constraint_theory.specs.Laws.{ForSystems, SettledIsLeast, ReplayIsLeast, LeastIsUnique, BeginIsSound, VisitsKeepSound, VisitsAreBounded, UnfinishedVisitsAreFewer, VisitsWithinBound, VisitsFromSound};
+ghost use Rattle.constraint_theory.specs.Laws.{ForMonotone, ForSystems, ForTests, SettledIsLeast, ReplayIsLeast, LeastIsUnique, SettledIsLeastOfValid, NarrowerIsMonotone, BeginIsSound, VisitsKeepSound, VisitsAreBounded, UnfinishedVisitsAreFewer, VisitsWithinBound, VisitsFromSound};
 
 /// In a sound state in which nothing waits the values are the least solution.
 pub fn settled_is_least<K, U, V>()
-    ensures { ForSystems K U V SettledIsLeast }
+    ensures { ForMonotone K U V SettledIsLeast }
 {}
 
 /// Whoever made the steps: where their replay satisfies each constraint, it is the least solution.
 pub fn replay_is_least<K, U, V>()
-    ensures { ForSystems K U V ReplayIsLeast }
+    ensures { ForMonotone K U V ReplayIsLeast }
 {}
 
 /// Two least solutions have the same value at each unknown, whatever led to them.
 pub fn least_is_unique<K, U, V>()
-    ensures { ForSystems K U V LeastIsUnique }
+    ensures { ForMonotone K U V LeastIsUnique }
+{}
+
+/// The same among all values that are valid by a wider test than the system's own: in a sound state in which nothing waits
+/// the values are the least of all valid solutions, where the system is monotone on the valid values.
+pub fn settled_is_least_of_valid<K, U, V>()
+    ensures { ForTests K U V SettledIsLeastOfValid }
+{}
+
+/// Where a system is monotone on all valid values, it is on the fewer that fit, if bottom, joins and constraints keep to
+/// these. So the laws of order are shown once, for all values, and the laws of ranks for those that fit.
+pub fn narrower_is_monotone<K, U, V>()
+    ensures { ForTests K U V NarrowerIsMonotone }
 {}
 
 /// The state at the start is sound.
 pub fn begin_is_sound<K, U, V>()
-    ensures { ForSystems K U V BeginIsSound }
+    ensures { ForMonotone K U V BeginIsSound }
 {}
 
 /// Each legal list of visits keeps a state sound.
 pub fn visits_keep_sound<K, U, V>()
-    ensures { ForSystems K U V VisitsKeepSound }
+    ensures { ForMonotone K U V VisitsKeepSound }
 {}
 
 /// The one law on visits. Over a set of unknowns that holds the targets of the waiting keys and, with an unknown, the

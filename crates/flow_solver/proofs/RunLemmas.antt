@@ -5,6 +5,7 @@ use Rattle.list_theory.specs.Lists.{has}
 use Rattle.constraint_theory.specs.Systems.{ConstraintSystem, IsLawful, IsLeast, bound, numbers}
 use Rattle.constraint_theory.specs.Machine.{IsSound, State, potential, replay, visited}
 use Rattle.constraint_theory.proofs.LeastLemmas as least
+use Rattle.constraint_theory.proofs.BoundLemmas as bounds
 use Rattle.constraint_theory.proofs.VisitLemmas as visits
 use Rattle.constraint_theory.proofs.NumberLemmas.{numbers_tell}
 use Rattle.flow_solver.specs.declared.answers.Visited.{Visited}
@@ -25,7 +26,7 @@ module _ {V : Type 0} (s : ConstraintSystem ℕ ℕ V) (law : IsLawful numbers s
 
   pub run_push : (n : ℕ) (old mid : State ℕ) (k : ℕ) → IsRun s n old mid → has nat_eq mid.waiting k ≡ true → IsRun s (n + 1) old (visited numbers s mid k)
   run_push n old mid k run waits =
-      (run.0 ++ k ∷ [], omega (arith, run.1, length-append run.0 (k ∷ [])), visits.legal_push numbers numbers_tell s law run.0 old k run.2 (ap (λ (st : State ℕ). has nat_eq st.waiting k) run.3 ∙ waits), visits.after_push numbers numbers_tell s law run.0 old k ∙ ap (λ st. visited numbers s st k) run.3)
+      (run.0 ++ k ∷ [], omega (arith, run.1, length-append run.0 (k ∷ [])), visits.legal_push numbers numbers_tell s law.monotone run.0 old k run.2 (ap (λ (st : State ℕ). has nat_eq st.waiting k) run.3 ∙ waits), visits.after_push numbers numbers_tell s law.monotone run.0 old k ∙ ap (λ st. visited numbers s st k) run.3)
 
   -- a visit carries a run on
   pub run_visit : (n : ℕ) (old mid new : State ℕ) (v : Visited) → IsRun s n old mid → IsVisit s mid v new → IsRun s (n + visits_of v) old new
@@ -34,15 +35,15 @@ module _ {V : Type 0} (s : ConstraintSystem ℕ ℕ V) (law : IsLawful numbers s
   run_visit n old mid new Raised run visit = rw visit.2.1 (run_push n old mid visit.0 run visit.2.0)
 
   pub run_bounded : (n : ℕ) (old new : State ℕ) → IsSound numbers s old → IsRun s n old new → n ≤ bound numbers s
-  run_bounded n old new sound run = omega (arith, run.1, visits.visits_from_sound numbers numbers_tell s law run.0 old sound run.2)
+  run_bounded n old new sound run = omega (arith, run.1, bounds.visits_from_sound numbers numbers_tell s law run.0 old sound run.2)
 
   -- a run after which something waits is below the bound
   pub run_below : (n : ℕ) (old new : State ℕ) → IsSound numbers s old → IsRun s n old new → 0 < length new.waiting → n < bound numbers s
   run_below n old new sound run more =
-      omega (arith, run.1, visits.unfinished_from_sound numbers numbers_tell s law run.0 old sound run.2 (rw run.3 more))
+      omega (arith, run.1, bounds.unfinished_from_sound numbers numbers_tell s law run.0 old sound run.2 (rw run.3 more))
 
   visit_falls_at : (mid new : State ℕ) (k : ℕ) → IsSound numbers s mid → has nat_eq mid.waiting k ≡ true → new ≡ visited numbers s mid k → potential numbers s new s.unknowns < potential numbers s mid s.unknowns
-  visit_falls_at mid new k sound waits e = rw e (visits.potential_falls numbers numbers_tell s law s.unknowns mid k sound (visits.closed_all numbers numbers_tell s law mid.waiting sound.waiting_known) waits)
+  visit_falls_at mid new k sound waits e = rw e (bounds.potential_falls numbers numbers_tell s law s.unknowns mid k sound (visits.closed_all numbers numbers_tell s law.monotone mid.waiting sound.waiting_known) waits)
 
   pub visit_falls : (mid new : State ℕ) (v : Visited) → IsSound numbers s mid → IsVisit s mid v new → visits_of v ≡ 1 → potential numbers s new s.unknowns < potential numbers s mid s.unknowns
   visit_falls mid new Idle sound visit one = absurd (omega arith)
@@ -90,4 +91,4 @@ module _ {V : Type 0} (s : ConstraintSystem ℕ ℕ V) (law : IsLawful numbers s
   all_bounded (Err r) old new b e sound ok err = refusal_bounded old new b e r sound err
 
   pub least_where_empty : (st : State ℕ) → IsSound numbers s st → st.waiting ≡ [] → IsLeast numbers s (replay numbers s st.steps)
-  least_where_empty st sound e = least.least_at_rest numbers numbers_tell s law st sound (λ k. ap (λ w. has nat_eq w k) e)
+  least_where_empty st sound e = least.least_at_rest numbers numbers_tell s law.monotone st sound (λ k. ap (λ w. has nat_eq w k) e)

@@ -1,8 +1,8 @@
 //! The engine.
-ghost use Rattle.std.specs.Prelude.{◌≡◌, ◌<◌, ◌≤◌, ◌+◌, [], ℕ, List, length, slice_index, false, IfOk, OnOk, OnErr, Some, None, Err};
+ghost use Rattle.std.specs.Prelude.{◌≡◌, ◌<◌, ◌≤◌, ◌+◌, [], ℕ, Bool, List, length, slice_index, false, IfOk, OnOk, OnErr, Some, None, Err};
 ghost use Rattle.std.specs.Option.{option_copied};
 ghost use Rattle.list_theory.specs.Lists.{has};
-ghost use Rattle.constraint_theory.specs.Systems.{IsLeast, IsUnknown, bound, numbers};
+ghost use Rattle.constraint_theory.specs.Systems.{IsLeast, IsMonotone, IsUnknown, bound, numbers, with_test};
 ghost use Rattle.constraint_theory.specs.Machine.{IsClosed, IsSound, Legal, begin, bound_within, replay, visited};
 ghost use Rattle.flow_solver.specs.Engines.{trace_of};
 ghost use Rattle.flow_solver.specs.Runs.{IsAsBefore, IsSettled, IsSpent, IsVisit, RefusedRun, visits_of};
@@ -141,7 +141,8 @@ impl<S: System, P: Pick> Engine<S, P> {
         self.progress.trace()
     }
 
-    /// How many constraints wait. Where none does, the values are the least solution.
+    /// How many constraints wait. Where none does, the values are the least solution; and the least of all valid solutions,
+    /// whatever fits the system, where it is monotone on the valid values.
     ///
     /// No legal list of visits from here on is longer than the system's bound; nor, for each set of unknowns that holds
     /// the targets of what waits and, with an unknown, the targets of its readers, than what waits and, over the set,
@@ -151,6 +152,9 @@ impl<S: System, P: Pick> Engine<S, P> {
         ensures sound { IsSound numbers (S.meaning self.now.system) self.now.state }
         ensures least { let s = S.meaning self.now.system in
             result ≡ 0 → IsLeast numbers s (replay numbers s self.now.state.steps) }
+        ensures least_of_valid { let s = S.meaning self.now.system in
+            (valid : ℕ → S.L.V → Bool) → IsMonotone numbers (with_test s valid)
+            → result ≡ 0 → IsLeast numbers (with_test s valid) (replay numbers s self.now.state.steps) }
         ensures bounded { let s = S.meaning self.now.system in
             (ks : List ℕ) → Legal numbers s self.now.state ks → length ks ≤ bound numbers s }
         ensures bounded_within { let s = S.meaning self.now.system in

@@ -83,25 +83,29 @@ union_monotone g a b h =
 module _ (unknowns keys : List ℕ) (source target : ℕ → ℕ) (transfer : ℕ → Pair → Pair) (once : distinct nat_eq keys ≡ true) (targets : (k : ℕ) → has nat_eq unknowns (target k) ≡ true) (sources : (k : ℕ) → has nat_eq unknowns (source k) ≡ true) (monotone : (k : ℕ) (a b : Pair) → includes a b ≡ true → includes (transfer k a) (transfer k b) ≡ true) where
   pub each_lawful : IsLawful numbers (each_reads_one unknowns keys source target transfer)
   each_lawful = record {
-    keys_once = once;
-    target_used = λ k _. targets k;
-    reads_used = λ k u _ read. elim (or_cases (nat_eq (source k) u) false read) [
-      | inl e ↦ ap (has nat_eq unknowns) (sym (eqb-true (source k) u e)) ∙ sources k
-      | inr e ↦ absurd (true≢false (sym e))
-    ];
-    bottom_fits = λ u _. refl;
-    join_fits = λ u a b _ _ _. refl;
-    eval_fits = λ k a _ _. refl;
-    leq_join = λ u a b _ _ _ h. joins a b h;
-    join_leq = λ u a b _ _ _ h. below a b h;
-    idempotent = λ u a _ _. pair (a.0 || a.0) (a.1 || a.1) a.0 a.1 (or_itself a.0) (or_itself a.1);
-    commutative = λ u a b _ _ _. pair (a.0 || b.0) (a.1 || b.1) (b.0 || a.0) (b.1 || a.1) (or_swap a.0 b.0) (or_swap a.1 b.1);
-    associative = λ u a b c _ _ _ _. pair ((a.0 || b.0) || c.0) ((a.1 || b.1) || c.1) (a.0 || (b.0 || c.0)) (a.1 || (b.1 || c.1)) (or_group a.0 b.0 c.0) (or_group a.1 b.1 c.1);
-    neutral = λ u a _ _. refl;
-    eval_monotone = λ k a b _ _ _ under. monotone k (a (source k)) (b (source k)) (under (source k) (sources k));
-    eval_reads = λ k a b _ _ _ same. ap (transfer k) (same (source k) (or_left (nat_eq (source k) (source k)) false (eq-eqb (source k) (source k) refl)));
-    rank_within = λ u a _ _. omega (arith, bit_small a.0, bit_small a.1);
-    rank_rises = λ u a b _ _ _ h n. rises a b h n;
+    monotone = record {
+      keys_once = once;
+      target_used = λ k _. targets k;
+      reads_used = λ k u _ read. elim (or_cases (nat_eq (source k) u) false read) [
+        | inl e ↦ ap (has nat_eq unknowns) (sym (eqb-true (source k) u e)) ∙ sources k
+        | inr e ↦ absurd (true≢false (sym e))
+      ];
+      bottom_fits = λ u _. refl;
+      join_fits = λ u a b _ _ _. refl;
+      eval_fits = λ k a _ _. refl;
+      leq_join = λ u a b _ _ _ h. joins a b h;
+      join_leq = λ u a b _ _ _ h. below a b h;
+      idempotent = λ u a _ _. pair (a.0 || a.0) (a.1 || a.1) a.0 a.1 (or_itself a.0) (or_itself a.1);
+      commutative = λ u a b _ _ _. pair (a.0 || b.0) (a.1 || b.1) (b.0 || a.0) (b.1 || a.1) (or_swap a.0 b.0) (or_swap a.1 b.1);
+      associative = λ u a b c _ _ _ _. pair ((a.0 || b.0) || c.0) ((a.1 || b.1) || c.1) (a.0 || (b.0 || c.0)) (a.1 || (b.1 || c.1)) (or_group a.0 b.0 c.0) (or_group a.1 b.1 c.1);
+      neutral = λ u a _ _. refl;
+      eval_monotone = λ k a b _ _ _ under. monotone k (a (source k)) (b (source k)) (under (source k) (sources k));
+      eval_reads = λ k a b _ _ _ same. ap (transfer k) (same (source k) (or_left (nat_eq (source k) (source k)) false (eq-eqb (source k) (source k) refl)));
+    };
+    ranks = record {
+      rank_within = λ u a _ _. omega (arith, bit_small a.0, bit_small a.1);
+      rank_rises = λ u a b _ _ _ h n. rises a b h n;
+    };
   }
 
 -- the sets are a lattice

@@ -3,7 +3,7 @@ use Rattle.std.specs.Prelude.{nat_eq}
 use Rattle.list_theory.specs.Lists.{has}
 use Rattle.constraint_theory.specs.Systems.{numbers}
 use Rattle.constraint_theory.proofs.NumberLemmas.{numbers_tell}
-use Rattle.constraint_theory.proofs.VisitLemmas as visits
+use Rattle.constraint_theory.proofs.BoundLemmas as bounds
 use Rattle.flow_solver.proofs.BeginLemmas as facts
 use Rattle.flow_solver.proofs.engine.Engine.new.Goals as goal
 
@@ -25,4 +25,4 @@ pub returns-clause-bounded : goal.returns-clause-bounded
 returns-clause-bounded g c =
     rw (facts.state_begin (g.S.System.meaning c.args.system) (g.met.S.System.laws c.args.system) c.in_ok-new.field-0.steps c.as_slice-2.result.now c.grow.new.self c.push_each.new.queue
     (ap (λ p. p.steps) c.in_ok-new.ensures) (c.as_slice-2.ensures ∙ c.keys-2.ensures) (ap (λ q. q.items) c.in_ok-grow.ensures.ok ∙ ap (λ q. q.items) c.new-waiting.ensures) c.push_each.ensures)
-    (λ ks legal. visits.visits_from_begin numbers numbers_tell (g.S.System.meaning c.args.system) (g.met.S.System.laws c.args.system) ks legal)
+    (λ ks legal. bounds.visits_from_begin numbers numbers_tell (g.S.System.meaning c.args.system) (g.met.S.System.laws c.args.system) ks legal)

@@ -1,0 +1,5 @@
+use Rattle.constraint_names.proofs.NamingLemmas as by_name
+use Rattle.constraint_names.proofs.naming.sound_is_named.Goals as goal
+
+pub returns : goal.returns
+returns g c = λ same other s t n tells tells' names law st sound. by_name.sound_named same other tells tells' s t n names law st sound

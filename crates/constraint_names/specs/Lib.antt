@@ -1,0 +1,4 @@
+pub mod Laws
+pub mod NamedEdits
+pub mod Naming
+pub mod Numbering
