@@ -10,10 +10,6 @@ mod files;
 #[cfg(test)]
 mod graphs;
 #[cfg(test)]
-mod joins;
-#[cfg(test)]
-mod lattices;
-#[cfg(test)]
 mod lexical;
 #[cfg(test)]
 mod lists;
