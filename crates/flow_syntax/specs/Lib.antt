@@ -8,7 +8,6 @@ pub mod ExprTypes
 pub mod Expressions
 pub mod Faults
 pub mod Graph
-pub mod Lattices
 pub mod Lexing
 pub mod Matching
 pub mod Parts

@@ -9,8 +9,8 @@ use Rattle.flow_term.specs.contracts.elem.ElemOrd.TheImpl as order
 use Rattle.flow_term.specs.Elements.{elem_cmp}
 use Rattle.lattice_sets.specs.Sets.{IsUnion, IsIntersection}
 use Rattle.lattice_sets.specs.SetLaws.{union_unique, intersection_unique}
-use Rattle.lattice_any.specs.Elements.{derived_order, elem_total, elem_exact}
-use Rattle.flow_syntax.specs.Lattices.{union_of, intersection_of}
+use Rattle.value_domains.specs.inner.Elements.{derived_order, elem_total, elem_exact}
+use Rattle.value_domains.specs.Values.{union_of, intersection_of}
 
 pub derived_rising : (xs : List Elem) → IsStrictlySortedBy elem_cmp xs → IsStrictlySortedBy order.ghosts.cmp xs
 derived_rising xs h = subst (λ R. IsStrictlySortedBy R xs) (sym derived_order) h

@@ -5,7 +5,7 @@ use Rattle.flow_term.specs.declared.elem.Elem.{Elem}
 use Rattle.flow_term.specs.declared.value.Value.{Value, Value-F, out-Value, roll-Value, roll-out-Value}
 use Rattle.flow_term.specs.declared.value.Value.TheVariants as value
 use Rattle.flow_term.specs.Elements.{elem_cmp}
-use Rattle.flow_syntax.specs.Lattices.{ValueLayer, flat_join}
+use Rattle.value_domains.specs.Values.{ValueLayer, flat_join}
 
 -- a value with a layer
 pub layer_of : (v : Value) (l : ValueLayer) → out-Value v ≡ l → v ≡ roll-Value l

@@ -15,60 +15,61 @@ use Rattle.flow_syntax.specs.declared.types.ElemSort.{ElemSort}
 use Rattle.lattice_sets.proofs.MapMerges.{answer_no}
 use Rattle.lattice_any.specs.declared.any.AnyL.{AnyL}
 use Rattle.lattice_any.specs.declared.any.AnyL.TheVariants as any
-use Rattle.flow_syntax.specs.Types.{Sort, Lattice, may, must, flat, map_to, pair_of, sort_of}
-use Rattle.flow_syntax.specs.Lattices.{ValueLayer, IsValueOf, least_of, Valid, bottom_of, IsMay, IsMust, IsFlat, IsMapOf, IsMapTo, IsOfSort, IsPairOf, pairs_of}
-use Rattle.lattice_any.specs.Types.{type_of}
+use Rattle.flow_syntax.specs.Types.{Sort, sort_of}
+use Rattle.value_domains.specs.Domains.{Domain, may, must, flat, map_to, pair_of, IsValueOf, least_of}
+use Rattle.value_domains.specs.Values.{ValueLayer, IsMay, IsMust, IsFlat, IsMapOf, IsMapTo, IsOfSort, IsPairOf, pairs_of}
+use Rattle.lattice_any.specs.Types.{domain_of_any}
 use Rattle.value_text.specs.Texts.{keys}
-use Rattle.lattice_any.proofs.AtTypes.{lattice, is_may, is_must, is_flat, is_map, is_pair}
+use Rattle.lattice_any.proofs.AtTypes.{is_may, is_must, is_flat, is_map, is_pair}
 use Rattle.lattice_any.proofs.FlatJoins.{layer_of}
 
 -- -- one of a lattice
 
-at_lattice : (l : AnyL) (k : Lattice) (v : Value) (r : Bool) → lattice l ≡ k → (r ≡ true) ↔ IsValueOf k v → (r ≡ true) ↔ Valid (type_of l) v
+at_lattice : (l : AnyL) (k : Domain) (v : Value) (r : Bool) → domain_of_any l ≡ k → (r ≡ true) ↔ IsValueOf k v → (r ≡ true) ↔ IsValueOf (domain_of_any l) v
 at_lattice l k v r e is = subst (λ k. (r ≡ true) ↔ IsValueOf k v) (sym e) is
 
-pub may_member : (l : AnyL) (sort : ElemSort) (v : Value) (r : Bool) → l ≡ any.May sort → (r ≡ true) ↔ IsMay (sort_of sort) (out-Value v) → (r ≡ true) ↔ Valid (type_of l) v
+pub may_member : (l : AnyL) (sort : ElemSort) (v : Value) (r : Bool) → l ≡ any.May sort → (r ≡ true) ↔ IsMay (sort_of sort) (out-Value v) → (r ≡ true) ↔ IsValueOf (domain_of_any l) v
 may_member l sort v r e is = at_lattice l (may (sort_of sort)) v r (is_may l sort e) is
 
-pub must_member : (l : AnyL) (sort : ElemSort) (v : Value) (r : Bool) → l ≡ any.Must sort → (r ≡ true) ↔ IsMust (sort_of sort) (out-Value v) → (r ≡ true) ↔ Valid (type_of l) v
+pub must_member : (l : AnyL) (sort : ElemSort) (v : Value) (r : Bool) → l ≡ any.Must sort → (r ≡ true) ↔ IsMust (sort_of sort) (out-Value v) → (r ≡ true) ↔ IsValueOf (domain_of_any l) v
 must_member l sort v r e is = at_lattice l (must (sort_of sort)) v r (is_must l sort e) is
 
-pub flat_member : (l : AnyL) (sort : ElemSort) (v : Value) (r : Bool) → l ≡ any.Flat sort → (r ≡ true) ↔ IsFlat (sort_of sort) (out-Value v) → (r ≡ true) ↔ Valid (type_of l) v
+pub flat_member : (l : AnyL) (sort : ElemSort) (v : Value) (r : Bool) → l ≡ any.Flat sort → (r ≡ true) ↔ IsFlat (sort_of sort) (out-Value v) → (r ≡ true) ↔ IsValueOf (domain_of_any l) v
 flat_member l sort v r e is = at_lattice l (flat (sort_of sort)) v r (is_flat l sort e) is
 
 pub map_member : (l : AnyL) (sort : ElemSort) (values : AnyL) (v : Value) (es us : List Entry) (r : Bool) → l ≡ any.Map sort values → v ≡ value.Map es → us ≡ es
-    → (r ≡ true) ↔ IsMapOf (sort_of sort) (Valid (type_of values)) (bottom_of (type_of values)) (pairs_of us) → (r ≡ true) ↔ Valid (type_of l) v
+    → (r ≡ true) ↔ IsMapOf (sort_of sort) (IsValueOf (domain_of_any values)) (least_of (domain_of_any values)) (pairs_of us) → (r ≡ true) ↔ IsValueOf (domain_of_any l) v
 map_member l sort values v es us r e f g is =
-    at_lattice l (map_to (sort_of sort) (lattice values)) v r (is_map l sort values e)
-    (subst (λ x. (r ≡ true) ↔ IsMapTo (sort_of sort) (Valid (type_of values)) (bottom_of (type_of values)) x) (sym (ap out-Value f ∙ value.outs-Map es))
-    (subst (λ es. (r ≡ true) ↔ IsMapOf (sort_of sort) (Valid (type_of values)) (bottom_of (type_of values)) (pairs_of es)) g is))
+    at_lattice l (map_to (sort_of sort) (domain_of_any values)) v r (is_map l sort values e)
+    (subst (λ x. (r ≡ true) ↔ IsMapTo (sort_of sort) (IsValueOf (domain_of_any values)) (least_of (domain_of_any values)) x) (sym (ap out-Value f ∙ value.outs-Map es))
+    (subst (λ es. (r ≡ true) ↔ IsMapOf (sort_of sort) (IsValueOf (domain_of_any values)) (least_of (domain_of_any values)) (pairs_of es)) g is))
 
 not_map : (sort : Sort) (P : Value → Type 0) (least : Value) (x : ValueLayer) → ((es : List Entry) → x ≡ Value-F.Map es → ⊥) → IsMapTo sort P least x → ⊥
 not_map sort P least (Value-F.Map es) none h = none es refl
 not_map sort P least _ none h = h
 
-pub no_map : (l : AnyL) (sort : ElemSort) (values : AnyL) (v : Value) → l ≡ any.Map sort values → ((es : List Entry) → v ≡ value.Map es → ⊥) → (false ≡ true) ↔ Valid (type_of l) v
+pub no_map : (l : AnyL) (sort : ElemSort) (values : AnyL) (v : Value) → l ≡ any.Map sort values → ((es : List Entry) → v ≡ value.Map es → ⊥) → (false ≡ true) ↔ IsValueOf (domain_of_any l) v
 no_map l sort values v e none =
-    at_lattice l (map_to (sort_of sort) (lattice values)) v false (is_map l sort values e)
-    (answer_no (λ h. h, λ h. h) (not_map (sort_of sort) (Valid (type_of values)) (bottom_of (type_of values)) (out-Value v) (λ es f. none es (layer_of v (Value-F.Map es) f ∙ value.rolls-Map es))))
+    at_lattice l (map_to (sort_of sort) (domain_of_any values)) v false (is_map l sort values e)
+    (answer_no (λ h. h, λ h. h) (not_map (sort_of sort) (IsValueOf (domain_of_any values)) (least_of (domain_of_any values)) (out-Value v) (λ es f. none es (layer_of v (Value-F.Map es) f ∙ value.rolls-Map es))))
 
-pub pair_member : (l left right : AnyL) (v a b : Value) → l ≡ any.Pair left right → v ≡ value.Pair a b → (Valid (type_of left) a × Valid (type_of right) b) ↔ Valid (type_of l) v
+pub pair_member : (l left right : AnyL) (v a b : Value) → l ≡ any.Pair left right → v ≡ value.Pair a b → (IsValueOf (domain_of_any left) a × IsValueOf (domain_of_any right) b) ↔ IsValueOf (domain_of_any l) v
 pair_member l left right v a b e f =
-    subst (λ k. (Valid (type_of left) a × Valid (type_of right) b) ↔ IsValueOf k v) (sym (is_pair l left right e))
-    (subst (λ x. (Valid (type_of left) a × Valid (type_of right) b) ↔ IsPairOf (Valid (type_of left)) (Valid (type_of right)) x) (sym (ap out-Value f ∙ value.outs-Pair a b)) (λ h. h, λ h. h))
+    subst (λ k. (IsValueOf (domain_of_any left) a × IsValueOf (domain_of_any right) b) ↔ IsValueOf k v) (sym (is_pair l left right e))
+    (subst (λ x. (IsValueOf (domain_of_any left) a × IsValueOf (domain_of_any right) b) ↔ IsPairOf (IsValueOf (domain_of_any left)) (IsValueOf (domain_of_any right)) x) (sym (ap out-Value f ∙ value.outs-Pair a b)) (λ h. h, λ h. h))
 
 not_pair : (P Q : Value → Type 0) (x : ValueLayer) → ((a b : Value) → x ≡ Value-F.Pair a b → ⊥) → IsPairOf P Q x → ⊥
 not_pair P Q (Value-F.Pair a b) none h = none a b refl
 not_pair P Q _ none h = h
 
-pub no_pair : (l left right : AnyL) (v : Value) → l ≡ any.Pair left right → ((a b : Value) → v ≡ value.Pair a b → ⊥) → (false ≡ true) ↔ Valid (type_of l) v
+pub no_pair : (l left right : AnyL) (v : Value) → l ≡ any.Pair left right → ((a b : Value) → v ≡ value.Pair a b → ⊥) → (false ≡ true) ↔ IsValueOf (domain_of_any l) v
 no_pair l left right v e none =
-    at_lattice l (pair_of (lattice left) (lattice right)) v false (is_pair l left right e)
-    (answer_no (λ h. h, λ h. h) (not_pair (Valid (type_of left)) (Valid (type_of right)) (out-Value v) (λ a b f. none a b (layer_of v (Value-F.Pair a b) f ∙ value.rolls-Pair a b))))
+    at_lattice l (pair_of (domain_of_any left) (domain_of_any right)) v false (is_pair l left right e)
+    (answer_no (λ h. h, λ h. h) (not_pair (IsValueOf (domain_of_any left)) (IsValueOf (domain_of_any right)) (out-Value v) (λ a b f. none a b (layer_of v (Value-F.Pair a b) f ∙ value.rolls-Pair a b))))
 
 -- -- the least of a lattice
 
-pub least_at : (l : AnyL) (k : Lattice) (v : Value) (r : Bool) → lattice l ≡ k → (r ≡ true) ↔ (v ≡ least_of k) → (r ≡ true) ↔ (v ≡ bottom_of (type_of l))
+pub least_at : (l : AnyL) (k : Domain) (v : Value) (r : Bool) → domain_of_any l ≡ k → (r ≡ true) ↔ (v ≡ least_of k) → (r ≡ true) ↔ (v ≡ least_of (domain_of_any l))
 least_at l k v r e is = subst (λ k. (r ≡ true) ↔ (v ≡ least_of k)) (sym e) is
 
 same_parts : (a b c d : Value) → value.Pair a b ≡ value.Pair c d → (a ≡ c) × (b ≡ d)
@@ -76,14 +77,14 @@ same_parts a b c d e =
     let layers : Value-F.Pair a b ≡ Value-F.Pair c d = sym (value.outs-Pair a b) ∙ ap out-Value e ∙ value.outs-Pair c d in
     (cc, cc)
 
-pub pair_least : (l left right : AnyL) (v a b : Value) → l ≡ any.Pair left right → v ≡ value.Pair a b → ((a ≡ bottom_of (type_of left)) × (b ≡ bottom_of (type_of right))) ↔ (v ≡ bottom_of (type_of l))
+pub pair_least : (l left right : AnyL) (v a b : Value) → l ≡ any.Pair left right → v ≡ value.Pair a b → ((a ≡ least_of (domain_of_any left)) × (b ≡ least_of (domain_of_any right))) ↔ (v ≡ least_of (domain_of_any l))
 pair_least l left right v a b e f =
-    let bottom : bottom_of (type_of l) ≡ value.Pair (bottom_of (type_of left)) (bottom_of (type_of right)) = ap least_of (is_pair l left right e) in
-    (λ h. f ∙ (λ i. value.Pair (h.0 i) (h.1 i)) ∙ sym bottom, λ j. same_parts a b (bottom_of (type_of left)) (bottom_of (type_of right)) (sym f ∙ j ∙ bottom))
+    let bottom : least_of (domain_of_any l) ≡ value.Pair (least_of (domain_of_any left)) (least_of (domain_of_any right)) = ap least_of (is_pair l left right e) in
+    (λ h. f ∙ (λ i. value.Pair (h.0 i) (h.1 i)) ∙ sym bottom, λ j. same_parts a b (least_of (domain_of_any left)) (least_of (domain_of_any right)) (sym f ∙ j ∙ bottom))
 
-pub no_least : (l left right : AnyL) (v : Value) → l ≡ any.Pair left right → ((a b : Value) → v ≡ value.Pair a b → ⊥) → (false ≡ true) ↔ (v ≡ bottom_of (type_of l))
+pub no_least : (l left right : AnyL) (v : Value) → l ≡ any.Pair left right → ((a b : Value) → v ≡ value.Pair a b → ⊥) → (false ≡ true) ↔ (v ≡ least_of (domain_of_any l))
 no_least l left right v e none =
-    answer_no (λ h. h, λ h. h) (λ j. none (bottom_of (type_of left)) (bottom_of (type_of right)) (j ∙ ap least_of (is_pair l left right e)))
+    answer_no (λ h. h, λ h. h) (λ j. none (least_of (domain_of_any left)) (least_of (domain_of_any right)) (j ∙ ap least_of (is_pair l left right e)))
 
 -- -- keys and values of entries
 

@@ -7,9 +7,9 @@ use Rattle.flow_term.specs.declared.value.Value.{Value, Value-F, out-Value}
 use Rattle.flow_term.specs.declared.value.Value.TheVariants as value
 use Rattle.flow_term.specs.declared.value.Entry.{Entry}
 use Rattle.flow_term.specs.Elements.{elem_cmp}
-use Rattle.flow_syntax.specs.Lattices.{ValueLayer}
+use Rattle.value_domains.specs.Values.{ValueLayer}
 use Rattle.lattice_sets.specs.SetLaws.{same_tied, ties_itself}
-use Rattle.lattice_any.specs.Elements.{elem_total, elem_exact}
+use Rattle.value_domains.specs.inner.Elements.{elem_total, elem_exact}
 
 -- what a test of two elements tells
 pub elem_told : (x y : Elem) (r : Bool) → r ≡ eq_by_cmp elem_cmp x y → (r ≡ true) ↔ (x ≡ y)

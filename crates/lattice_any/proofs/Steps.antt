@@ -13,9 +13,9 @@ use Rattle.lattice_sets.specs.Maps.{IsMap}
 use Rattle.lattice_sets.specs.SetLaws.{flip_greater}
 use Rattle.lattice_sets.proofs.MapMerges.{join_less, join_equal, join_greater, join_left_ended, join_right_ended, first_kept, rest_map, not_below_ended, not_below_less, not_below_equal, below_equal, below_greater, below_ended}
 use Rattle.lattice_sets.proofs.Merges.{moved, finished}
-use Rattle.lattice_any.specs.Elements.{elem_total, elem_exact}
-use Rattle.lattice_any.specs.LatticeLaws.{entries_back}
-use Rattle.flow_syntax.specs.Lattices.{map_join, pairs_of, entries_of}
+use Rattle.value_domains.specs.inner.Elements.{elem_total, elem_exact}
+use Rattle.value_domains.specs.inner.DomainLaws.{entries_back}
+use Rattle.value_domains.specs.Values.{map_join, pairs_of, entries_of}
 
 pub compared : (x y : Elem) (r : Ordering) → r ≡ order.ghosts.cmp x y → elem_cmp x y ≡ r
 compared x y r e = sym (e ∙ elements_ordered x y)

@@ -1,7 +1,7 @@
 //! The lattice of a type.
 ghost use Rattle.std.specs.Prelude.{◌≡◌, ◌↔◌, IsTrue, IfOk};
-ghost use Rattle.flow_syntax.specs.Lattices.{Valid};
-ghost use Rattle.lattice_any.specs.Types.{AreIn, type_of};
+ghost use Rattle.value_domains.specs.Domains.{IsValueOf};
+ghost use Rattle.lattice_any.specs.Types.{AreIn, IsOfType, domain_of_any};
 
 use crate::copy::{build_lattice, copy_lattice};
 use crate::join::{join_values, least_value};
@@ -35,7 +35,7 @@ impl AnyL {
     /// The lattice of the type. Fails only for want of memory.
     pub fn build(alloc: Global, tables: &Tables, of: &LatticeType) -> Result<AnyL, AllocError>
         requires { AreIn of.now tables.now }
-        ensures { IfOk result (λ lattice. type_of lattice ≡ of.now) }
+        ensures { IfOk result (IsOfType of.now) }
     {
         build_lattice(alloc, of)
     }
@@ -49,25 +49,25 @@ impl AnyL {
 
     /// Whether the value is one of the lattice. Takes no memory.
     pub fn contains(&self, value: &Value) -> bool
-        ensures { IsTrue result ↔ Valid (type_of self.now) value.now }
+        ensures { IsTrue result ↔ IsValueOf (domain_of_any self.now) value.now }
     {
         is_value(self, value)
     }
 }
 
 impl Lattice for AnyL {
-    ghost use Rattle.flow_syntax.specs.Lattices.{Below, bottom_of, join_of};
+    ghost use Rattle.value_domains.specs.Domains.{IsBelowIn, least_of, joined_of};
     ghost use Rattle.lattice_any.specs.TypeLaws.{any_laws, any_order};
 
     type V = Value;
 
-    ghost valid = { λ l v. Valid (type_of l) v };
+    ghost valid = { λ l v. IsValueOf (domain_of_any l) v };
 
-    ghost least = { λ l. bottom_of (type_of l) };
+    ghost least = { λ l. least_of (domain_of_any l) };
 
-    ghost joined = { λ l a b. join_of (type_of l) a b };
+    ghost joined = { λ l a b. joined_of (domain_of_any l) a b };
 
-    ghost below = { λ l a b. Below (type_of l) a b };
+    ghost below = { λ l a b. IsBelowIn (domain_of_any l) a b };
 
     fn bottom(&self, alloc: Global) -> Result<Value, AllocError> {
         least_value(self, alloc)

@@ -1,7 +1,7 @@
 //! Lattices made from types, and copies of them.
 ghost use Rattle.std.specs.Prelude.{◌≡◌, IfOk};
-ghost use Rattle.flow_syntax.specs.Lattices.{NamesNoTable};
-ghost use Rattle.lattice_any.specs.Types.{type_of};
+ghost use Rattle.value_domains.specs.Lawful.{NamesNoTable};
+ghost use Rattle.lattice_any.specs.Types.{IsOfType};
 
 use crate::any::AnyL;
 use flow_syntax::LatticeType;
@@ -11,7 +11,7 @@ use std::alloc::{AllocError, Global};
 /// The lattice of a type that names no table.
 pub(crate) fn build_lattice(alloc: Global, of: &LatticeType) -> Result<AnyL, AllocError>
     requires { NamesNoTable of.now }
-    ensures { IfOk result (λ lattice. type_of lattice ≡ of.now) }
+    ensures { IfOk result (IsOfType of.now) }
 {
     match of {
         LatticeType::May(sort) => Ok(AnyL::May(sort.duplicate(alloc)?)),

@@ -2,8 +2,9 @@
 ghost use Rattle.std.specs.Prelude.{◌≡◌, ◌++◌, ◌∷◌, [], IfOk, OnOk};
 ghost use Rattle.flow_term.specs.Elements.{elem_cmp};
 ghost use Rattle.lattice_sets.specs.Maps.{IsMap};
-ghost use Rattle.flow_syntax.specs.Lattices.{Valid, bottom_of, entries_of, join_of, map_join, pairs_of};
-ghost use Rattle.lattice_any.specs.Types.{type_of};
+ghost use Rattle.value_domains.specs.Domains.{IsValueOf, least_of, joined_of};
+ghost use Rattle.value_domains.specs.Values.{entries_of, map_join, pairs_of};
+ghost use Rattle.lattice_any.specs.Types.{domain_of_any};
 
 use crate::any::AnyL;
 use crate::parts::{elems, entries, join_flat, join_must, parts, push_copies, push_copy, union};
@@ -19,9 +20,9 @@ pub(crate) fn join_values(
     a: &Value,
     b: &Value,
 ) -> Result<Value, AllocError>
-    requires left { Valid (type_of lattice.now) a.now }
-    requires right { Valid (type_of lattice.now) b.now }
-    ensures { IfOk result (λ value. value ≡ join_of (type_of lattice.now) a.now b.now) }
+    requires left { IsValueOf (domain_of_any lattice.now) a.now }
+    requires right { IsValueOf (domain_of_any lattice.now) b.now }
+    ensures { IfOk result (λ value. value ≡ joined_of (domain_of_any lattice.now) a.now b.now) }
 {
     match lattice {
         AnyL::May(_) => Ok(Value::Set(union(alloc, elems(a), elems(b))?)),
@@ -50,9 +51,9 @@ fn push_joined(
     a: &Entry,
     b: &Entry,
 ) -> Result<(), AllocError>
-    requires left { Valid (type_of values.now) a.now.value }
-    requires right { Valid (type_of values.now) b.now.value }
-    ensures { OnOk result (pairs_of list.new ≡ pairs_of list.old ++ (a.now.key, join_of (type_of values.now) a.now.value b.now.value) ∷ []) }
+    requires left { IsValueOf (domain_of_any values.now) a.now.value }
+    requires right { IsValueOf (domain_of_any values.now) b.now.value }
+    ensures { OnOk result (pairs_of list.new ≡ pairs_of list.old ++ (a.now.key, joined_of (domain_of_any values.now) a.now.value b.now.value) ∷ []) }
 {
     let key = a.key.copy(alloc)?;
     let value = join_values(values, alloc, &a.value, &b.value)?;
@@ -67,9 +68,9 @@ fn join_entries(
     a: &[Entry],
     b: &[Entry],
 ) -> Result<List<Entry>, AllocError>
-    requires left { IsMap elem_cmp (Valid (type_of values.now)) (bottom_of (type_of values.now)) (pairs_of a.now) }
-    requires right { IsMap elem_cmp (Valid (type_of values.now)) (bottom_of (type_of values.now)) (pairs_of b.now) }
-    ensures { IfOk result (λ list. list ≡ entries_of (map_join (join_of (type_of values.now)) (pairs_of a.now) (pairs_of b.now))) }
+    requires left { IsMap elem_cmp (IsValueOf (domain_of_any values.now)) (least_of (domain_of_any values.now)) (pairs_of a.now) }
+    requires right { IsMap elem_cmp (IsValueOf (domain_of_any values.now)) (least_of (domain_of_any values.now)) (pairs_of b.now) }
+    ensures { IfOk result (λ list. list ≡ entries_of (map_join (joined_of (domain_of_any values.now)) (pairs_of a.now) (pairs_of b.now))) }
 {
     let mut list = List::new(alloc);
     let mut left = a;
@@ -98,7 +99,7 @@ fn join_entries(
 
 /// The least value of the lattice.
 pub(crate) fn least_value(lattice: &AnyL, alloc: Global) -> Result<Value, AllocError>
-    ensures { IfOk result (λ value. value ≡ bottom_of (type_of lattice.now)) }
+    ensures { IfOk result (λ value. value ≡ least_of (domain_of_any lattice.now)) }
 {
     match lattice {
         AnyL::May(_) => Ok(Value::Set(List::new(alloc))),

@@ -2,9 +2,10 @@
 //! caller's proof.
 ghost use Rattle.flow_term.specs.Elements.{elem_cmp};
 ghost use Rattle.lattice_sets.specs.Maps.{IsPointwise};
-ghost use Rattle.flow_syntax.specs.Lattices.{Valid, bottom_of, intersection_of, join_of, map_join, union_of};
+ghost use Rattle.value_domains.specs.Domains.{IsValueOf, least_of, joined_of};
+ghost use Rattle.value_domains.specs.Values.{intersection_of, map_join, union_of};
 ghost use Rattle.lattice_any.specs.Joins.{GivesIntersections, GivesUnions};
-ghost use Rattle.lattice_any.specs.Types.{type_of};
+ghost use Rattle.lattice_any.specs.Types.{domain_of_any};
 
 use crate::any::AnyL;
 
@@ -16,5 +17,5 @@ pub fn set_joins_are_unions_and_intersections()
 
 /// The value of a join of two maps at a key is the join of their values there, where an absent key stands for bottom.
 pub fn map_joins_are_pointwise(_values: &AnyL)
-    ensures { IsPointwise elem_cmp (Valid (type_of _values.now)) (bottom_of (type_of _values.now)) (join_of (type_of _values.now)) (map_join (join_of (type_of _values.now))) }
+    ensures { IsPointwise elem_cmp (IsValueOf (domain_of_any _values.now)) (least_of (domain_of_any _values.now)) (joined_of (domain_of_any _values.now)) (map_join (joined_of (domain_of_any _values.now))) }
 {}

@@ -4,9 +4,10 @@ ghost use Rattle.std.specs.Map.{keys_of, values_of};
 ghost use Rattle.flow_term.specs.declared.value.Value.{out-Value};
 ghost use Rattle.flow_term.specs.declared.value.Value.TheVariants.{Bottom, Map, Set, Unreached};
 ghost use Rattle.flow_syntax.specs.Types.{sort_of};
-ghost use Rattle.flow_syntax.specs.Lattices.{IsFlat, IsMapOf, IsMay, IsMust, IsOfSort, IsSetOf, Valid, bottom_of, is_of_sort, pairs_of};
+ghost use Rattle.value_domains.specs.Domains.{IsValueOf, least_of};
+ghost use Rattle.value_domains.specs.Values.{IsFlat, IsMapOf, IsMay, IsMust, IsOfSort, IsSetOf, is_of_sort, pairs_of};
 ghost use Rattle.lattice_any.specs.Members.{IsKeptIn};
-ghost use Rattle.lattice_any.specs.Types.{type_of};
+ghost use Rattle.lattice_any.specs.Types.{domain_of_any};
 
 use crate::any::AnyL;
 use flow_syntax::ElemSort;
@@ -105,7 +106,7 @@ fn is_bottom(value: &Value) -> bool
 
 /// Whether the value is the least of the lattice.
 fn is_least(lattice: &AnyL, value: &Value) -> bool
-    ensures { IsTrue result ↔ (value.now ≡ bottom_of (type_of lattice.now)) }
+    ensures { IsTrue result ↔ (value.now ≡ least_of (domain_of_any lattice.now)) }
 {
     match lattice {
         AnyL::May(_) => is_empty_set(value),
@@ -129,7 +130,7 @@ fn keys_have_sort(sort: &ElemSort, entries: &[Entry]) -> bool
 /// Whether the value is one of the lattice.
 #[cycle(member)]
 pub(crate) fn is_value(lattice: &AnyL, value: &Value) -> bool
-    ensures { IsTrue result ↔ Valid (type_of lattice.now) value.now }
+    ensures { IsTrue result ↔ IsValueOf (domain_of_any lattice.now) value.now }
 {
     match lattice {
         AnyL::May(sort) => is_may(sort, value),
@@ -149,7 +150,7 @@ pub(crate) fn is_value(lattice: &AnyL, value: &Value) -> bool
 /// Whether the entries are a map from elements of the sort to values of the lattice.
 #[cycle(member)]
 fn is_map(sort: &ElemSort, values: &AnyL, entries: &[Entry]) -> bool
-    ensures { IsTrue result ↔ IsMapOf (sort_of sort.now) (Valid (type_of values.now)) (bottom_of (type_of values.now)) (pairs_of entries.now) }
+    ensures { IsTrue result ↔ IsMapOf (sort_of sort.now) (IsValueOf (domain_of_any values.now)) (least_of (domain_of_any values.now)) (pairs_of entries.now) }
 {
     keys_rise(entries) && keys_have_sort(sort, entries) && are_kept(values, entries)
 }
@@ -157,7 +158,7 @@ fn is_map(sort: &ElemSort, values: &AnyL, entries: &[Entry]) -> bool
 /// Whether each value is one of the lattice other than its least.
 #[cycle(member)]
 fn are_kept(values: &AnyL, entries: &[Entry]) -> bool
-    ensures { IsTrue result ↔ All (λ e. IsKeptIn (type_of values.now) e.value) entries.now }
+    ensures { IsTrue result ↔ All (λ e. IsKeptIn (domain_of_any values.now) e.value) entries.now }
 {
     for entry in entries {
         if !is_value(values, &entry.value) || is_least(values, &entry.value) {

@@ -2,8 +2,9 @@
 ghost use Rattle.std.specs.Prelude.{◌≡◌, ◌↔◌, IsTrue};
 ghost use Rattle.flow_term.specs.Elements.{elem_cmp};
 ghost use Rattle.lattice_sets.specs.Maps.{IsMap};
-ghost use Rattle.flow_syntax.specs.Lattices.{Valid, bottom_of, join_of, map_join, pairs_of};
-ghost use Rattle.lattice_any.specs.Types.{type_of};
+ghost use Rattle.value_domains.specs.Domains.{IsValueOf, least_of, joined_of};
+ghost use Rattle.value_domains.specs.Values.{map_join, pairs_of};
+ghost use Rattle.lattice_any.specs.Types.{domain_of_any};
 
 use crate::any::AnyL;
 use crate::parts::{elems, entries, includes, is_below_flat, is_below_must, parts};
@@ -13,9 +14,9 @@ use std::cmp::Ordering;
 /// Whether `a` is below `b` or equals it.
 #[cycle(order)]
 pub(crate) fn is_below(lattice: &AnyL, a: &Value, b: &Value) -> bool
-    requires left { Valid (type_of lattice.now) a.now }
-    requires right { Valid (type_of lattice.now) b.now }
-    ensures { IsTrue result ↔ (join_of (type_of lattice.now) a.now b.now ≡ b.now) }
+    requires left { IsValueOf (domain_of_any lattice.now) a.now }
+    requires right { IsValueOf (domain_of_any lattice.now) b.now }
+    ensures { IsTrue result ↔ (joined_of (domain_of_any lattice.now) a.now b.now ≡ b.now) }
 {
     match lattice {
         AnyL::May(_) => includes(elems(b), elems(a)),
@@ -33,9 +34,9 @@ pub(crate) fn is_below(lattice: &AnyL, a: &Value, b: &Value) -> bool
 /// Whether the first map is below the second. It stops at the first key that decides.
 #[cycle(order)]
 fn are_below(values: &AnyL, a: &[Entry], b: &[Entry]) -> bool
-    requires left { IsMap elem_cmp (Valid (type_of values.now)) (bottom_of (type_of values.now)) (pairs_of a.now) }
-    requires right { IsMap elem_cmp (Valid (type_of values.now)) (bottom_of (type_of values.now)) (pairs_of b.now) }
-    ensures { IsTrue result ↔ (map_join (join_of (type_of values.now)) (pairs_of a.now) (pairs_of b.now) ≡ pairs_of b.now) }
+    requires left { IsMap elem_cmp (IsValueOf (domain_of_any values.now)) (least_of (domain_of_any values.now)) (pairs_of a.now) }
+    requires right { IsMap elem_cmp (IsValueOf (domain_of_any values.now)) (least_of (domain_of_any values.now)) (pairs_of b.now) }
+    ensures { IsTrue result ↔ (map_join (joined_of (domain_of_any values.now)) (pairs_of a.now) (pairs_of b.now) ≡ pairs_of b.now) }
 {
     let mut left = a;
     let mut right = b;

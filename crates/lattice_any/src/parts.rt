@@ -4,7 +4,7 @@ ghost use Rattle.std.specs.List.Sorted.{IsStrictlySortedBy};
 ghost use Rattle.std.specs.Ordering.{eq_by_cmp};
 ghost use Rattle.flow_term.specs.Elements.{elem_cmp};
 ghost use Rattle.flow_term.specs.declared.value.Value.{out-Value, roll-Value};
-ghost use Rattle.flow_syntax.specs.Lattices.{elems_in, entries_in, flat_join, Includes, intersection_of, IsBelowFlat, IsBelowMust, IsSomePair, left_in, must_join, pairs_of, right_in, union_of};
+ghost use Rattle.value_domains.specs.Values.{elems_in, entries_in, flat_join, Includes, intersection_of, IsBelowFlat, IsBelowMust, IsSomePair, left_in, must_join, pairs_of, right_in, union_of};
 
 use flow_term::{Elem, Entry, List, Value};
 use std::alloc::{AllocError, Global};

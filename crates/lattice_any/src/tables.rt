@@ -1,6 +1,6 @@
 //! The tables of a specification's declared lattices.
 ghost use Rattle.std.specs.Prelude.{◌≡◌, ◌↔◌, IsTrue, IfOk};
-ghost use Rattle.flow_syntax.specs.Lattices.{NamesNoTable};
+ghost use Rattle.value_domains.specs.Lawful.{NamesNoTable};
 ghost use Rattle.lattice_any.specs.Types.{AreIn};
 
 use flow_syntax::LatticeType;

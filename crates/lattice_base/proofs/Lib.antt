@@ -1,1 +1,1 @@
-mod Orders
+pub mod Orders

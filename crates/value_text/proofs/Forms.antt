@@ -16,7 +16,8 @@ use Rattle.flow_term.specs.declared.elem.Elem.TheVariants as elem
 use Rattle.flow_term.specs.Elements.{elem_cmp}
 use Rattle.flow_term.specs.ElementsLaws.{elements_ordered}
 use Rattle.flow_syntax.specs.Accepted.{IsIdentifier}
-use Rattle.value_text.specs.Rising.{elem_total, is_below_first, rises}
+use Rattle.value_domains.specs.inner.Elements.{elem_total}
+use Rattle.value_text.specs.Rising.{is_below_first, rises}
 use Rattle.value_text.specs.Texts.{HasElemText, MayBeWritten}
 use Rattle.value_text.proofs.Numbers.{both}
 

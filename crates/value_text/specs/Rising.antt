@@ -1,16 +1,8 @@
--- How a rise of elements is tested, and that their order is total.
-use Rattle.std.proofs.Common.{subst}
+-- How a rise of elements is tested.
 use Rattle.std.specs.Prelude.{Bool, true, ◌&&◌, List, [], ◌∷◌}
-use Rattle.std.specs.Cmp.{IsTotalOrder}
 use Rattle.std.specs.Ordering.{is_lt}
-use Rattle.flow_term.specs.contracts.elem.ElemOrd.TheImpl.Laws as laws
 use Rattle.flow_term.specs.declared.elem.Elem.{Elem}
 use Rattle.flow_term.specs.Elements.{elem_cmp}
-use Rattle.flow_term.specs.ElementsLaws.{elements_ordered}
-
--- the derived comparison of elements, which is total, is that of the specification
-pub elem_total : IsTotalOrder elem_cmp
-elem_total = subst IsTotalOrder (λ i x y. elements_ordered x y i) laws.total-law
 
 -- x is below the first of the list, if there is one
 abbrev pub is_below_first : Elem → List Elem → Bool

@@ -3,8 +3,8 @@ use Rattle.lattice_any.specs.declared.any.AnyL.TheVariants as any
 use Rattle.lattice_any.proofs.AtTypes.{must_answer, flat_answer, may_rising, may_joined, must_rising, map_entries, map_joined, some_pair, left_valid, right_valid, pair_joined}
 use Rattle.lattice_any.proofs.Depths.{map_falls, left_falls, right_falls}
 use Rattle.lattice_any.proofs.Steps.{rest_passed, less_step, equal_step, greater_step, left_ended, right_ended}
-use Rattle.flow_syntax.specs.Lattices.{Valid, bottom_of, join_of}
-use Rattle.lattice_any.specs.Types.{type_of}
+use Rattle.value_domains.specs.Domains.{IsValueOf, least_of, joined_of}
+use Rattle.lattice_any.specs.Types.{domain_of_any}
 use Rattle.lattice_any.proofs.join.+join.Goals as goal
 use Rattle.lattice_any.proofs.join.+join.Goals.{join_entries-in_default, join_entries-in_default-2}
 
@@ -69,7 +69,7 @@ join_entries-loop-x-preserved-in_ok-push_copy-in-Less t c =
     record {
       left = rest_passed _ _ _ _ _ s.ensures.cases.0 m.left;
       right = m.right;
-      whole = less_step (join_of (type_of c.args.values.now)) (Valid (type_of c.args.values.now)) (bottom_of (type_of c.args.values.now)) _ _ _ _ _ _ _ _ _ s.ensures.cases.0 s.ensures'.cases.0 m.right c.in-Less.ensures c.in_ok-push_copy-in-Less.ensures m.whole;
+      whole = less_step (joined_of (domain_of_any c.args.values.now)) (IsValueOf (domain_of_any c.args.values.now)) (least_of (domain_of_any c.args.values.now)) _ _ _ _ _ _ _ _ _ s.ensures.cases.0 s.ensures'.cases.0 m.right c.in-Less.ensures c.in_ok-push_copy-in-Less.ensures m.whole;
     }
 
 pub join_entries-loop-x-preserved-in_ok-push_joined-in-Equal :
@@ -80,7 +80,7 @@ join_entries-loop-x-preserved-in_ok-push_joined-in-Equal t c =
     record {
       left = rest_passed _ _ _ _ _ s.ensures.cases.0 m.left;
       right = rest_passed _ _ _ _ _ s.ensures'.cases.0 m.right;
-      whole = equal_step (join_of (type_of c.args.values.now)) (Valid (type_of c.args.values.now)) (bottom_of (type_of c.args.values.now)) _ _ _ _ _ _ _ _ _ s.ensures.cases.0 s.ensures'.cases.0 m.right c.in-Equal.ensures c.in_ok-push_joined-in-Equal.ensures m.whole;
+      whole = equal_step (joined_of (domain_of_any c.args.values.now)) (IsValueOf (domain_of_any c.args.values.now)) (least_of (domain_of_any c.args.values.now)) _ _ _ _ _ _ _ _ _ s.ensures.cases.0 s.ensures'.cases.0 m.right c.in-Equal.ensures c.in_ok-push_joined-in-Equal.ensures m.whole;
     }
 
 pub join_entries-loop-x-preserved : goal.join_entries-loop-x-preserved
@@ -90,14 +90,14 @@ join_entries-loop-x-preserved t c =
     record {
       left = m.left;
       right = rest_passed _ _ _ _ _ s.ensures'.cases.0 m.right;
-      whole = greater_step (join_of (type_of c.args.values.now)) (Valid (type_of c.args.values.now)) (bottom_of (type_of c.args.values.now)) _ _ _ _ _ _ _ _ _ s.ensures.cases.0 s.ensures'.cases.0 m.left m.right c.in-Greater.ensures c.in_ok-push_copy-in-Greater.ensures m.whole;
+      whole = greater_step (joined_of (domain_of_any c.args.values.now)) (IsValueOf (domain_of_any c.args.values.now)) (least_of (domain_of_any c.args.values.now)) _ _ _ _ _ _ _ _ _ s.ensures.cases.0 s.ensures'.cases.0 m.left m.right c.in-Greater.ensures c.in_ok-push_copy-in-Greater.ensures m.whole;
     }
 
 pub join_entries-returns : goal.join_entries-returns
 join_entries-returns t c =
     let m = c.loop-x.invariant in
-    let t = type_of c.args.values.now in
+    let t = domain_of_any c.args.values.now in
     elim c.match-split_first.branch [
-      | join_entries-in_default w ↦ right_ended (join_of t) (Valid t) (bottom_of t) _ _ _ _ _ _ w.in_default.ensures'.cases m.whole c.in_ok-push_copies.ensures c.in_ok-push_copies-2.ensures
-      | join_entries-in_default-2 w ↦ left_ended (join_of t) (Valid t) (bottom_of t) _ _ _ _ _ _ m.right w.in_default.ensures.cases m.whole c.in_ok-push_copies.ensures c.in_ok-push_copies-2.ensures
+      | join_entries-in_default w ↦ right_ended (joined_of t) (IsValueOf t) (least_of t) _ _ _ _ _ _ w.in_default.ensures'.cases m.whole c.in_ok-push_copies.ensures c.in_ok-push_copies-2.ensures
+      | join_entries-in_default-2 w ↦ left_ended (joined_of t) (IsValueOf t) (least_of t) _ _ _ _ _ _ m.right w.in_default.ensures.cases m.whole c.in_ok-push_copies.ensures c.in_ok-push_copies-2.ensures
     ]

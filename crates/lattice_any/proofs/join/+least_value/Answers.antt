@@ -1,7 +1,7 @@
 use Rattle.std.proofs.Common.{sym, ap, ◌∙◌}
 use Rattle.flow_term.specs.declared.value.Value.TheVariants as value
 use Rattle.lattice_any.specs.declared.any.AnyL.TheVariants as any
-use Rattle.flow_syntax.specs.Lattices.{least_of}
+use Rattle.value_domains.specs.Domains.{least_of}
 use Rattle.lattice_any.proofs.AtTypes.{is_may, is_must, is_flat, is_map, is_pair}
 use Rattle.lattice_any.proofs.join.+least_value.Goals as goal
 

@@ -1,6 +1,6 @@
 use Rattle.flow_term.specs.Elements.{elem_cmp}
 use Rattle.lattice_sets.specs.SetLaws.{union_is_union, intersection_is_intersection}
-use Rattle.lattice_any.specs.Elements.{elem_total, elem_exact}
+use Rattle.value_domains.specs.inner.Elements.{elem_total, elem_exact}
 use Rattle.lattice_any.proofs.laws.set_joins_are_unions_and_intersections.Goals as goal
 
 pub returns-clause-may : goal.returns-clause-may

@@ -5,7 +5,7 @@ use Rattle.lattice_any.proofs.Members.{all_taken, map_answer, one_more, may_memb
 use Rattle.lattice_any.proofs.Orders.{both_answers, first_answer}
 use Rattle.std.proofs.lemmas.Bool.{both_ways}
 use Rattle.lattice_any.specs.Members.{IsKeptIn}
-use Rattle.lattice_any.specs.Types.{type_of}
+use Rattle.lattice_any.specs.Types.{domain_of_any}
 use Rattle.lattice_any.proofs.member.+member.Goals as goal
 use Rattle.lattice_any.proofs.member.+member.Goals.{is_map-then-keys_rise, is_map-else-keys_rise}
 
@@ -55,9 +55,9 @@ is_map-returns-else-keys_have_sort t c = no_answer _ _ c.if-keys_have_sort.false
 
 pub are_kept-loop-entry-preserved : goal.are_kept-loop-entry-preserved
 are_kept-loop-entry-preserved t c =
-    one_more (λ e. IsKeptIn (type_of c.args.values.now) e.value) _ _ _ c.loop-entry-test.true c.entry-item.is c.loop-entry.invariant
+    one_more (λ e. IsKeptIn (domain_of_any c.args.values.now) e.value) _ _ _ c.loop-entry-test.true c.entry-item.is c.loop-entry.invariant
     (c.is_value.ensures.0 c.if-not-is_value.false, λ j. both_ways _ c.if-is_least.false (c.is_least.ensures.1 j))
 
 pub are_kept-returns : goal.are_kept-returns
 are_kept-returns t c =
-    (λ h. all_taken (λ e. IsKeptIn (type_of c.args.values.now) e.value) _ _ c.loop-entry-test.false c.loop-entry.invariant, λ h. refl)
+    (λ h. all_taken (λ e. IsKeptIn (domain_of_any c.args.values.now) e.value) _ _ c.loop-entry-test.false c.loop-entry.invariant, λ h. refl)

@@ -1,7 +1,7 @@
 use Rattle.std.specs.Prelude.{All, IsTrue}
 use Rattle.std.proofs.Common.{rules, ◌↔◌}
 use Rattle.flow_syntax.specs.Types.{sort_of}
-use Rattle.flow_syntax.specs.Lattices.{IsOfSort}
+use Rattle.value_domains.specs.Values.{IsOfSort}
 use Rattle.lattice_any.proofs.Members.{keys_answer}
 use Rattle.lattice_any.proofs.member.keys_have_sort.Goals as goal
 

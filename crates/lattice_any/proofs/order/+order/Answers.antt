@@ -6,8 +6,8 @@ use Rattle.lattice_any.proofs.AtTypes.{may_rising, must_rising, map_entries, som
 use Rattle.lattice_any.proofs.Depths.{map_falls, left_falls, right_falls}
 use Rattle.lattice_any.proofs.Orders.{may_below, must_below, flat_below, map_below, pair_below, both_answers, first_answer}
 use Rattle.lattice_any.proofs.Steps.{rest_passed, below_less, above_at_key, below_at_key, below_past, below_at_end}
-use Rattle.flow_syntax.specs.Lattices.{Valid, bottom_of, join_of}
-use Rattle.lattice_any.specs.Types.{type_of}
+use Rattle.value_domains.specs.Domains.{IsValueOf, least_of, joined_of}
+use Rattle.lattice_any.specs.Types.{domain_of_any}
 use Rattle.lattice_any.proofs.order.+order.Goals as goal
 
 pub is_below-includes-requires-clause-left : goal.is_below-includes-requires-clause-left
@@ -73,41 +73,41 @@ is_below-returns-else-is_below t c =
 pub are_below-returns-in-Less : goal.are_below-returns-in-Less
 are_below-returns-in-Less t c =
     let m = c.loop-x.invariant in
-    let k = type_of c.args.values.now in
-    answer_no m.answer (below_less (join_of k) (Valid k) (bottom_of k) _ _ _ _ _ _ c.in-Some.ensures.cases.0 c.in-Some-split_first.ensures.cases.0 m.right c.in-Less.ensures)
+    let k = domain_of_any c.args.values.now in
+    answer_no m.answer (below_less (joined_of k) (IsValueOf k) (least_of k) _ _ _ _ _ _ c.in-Some.ensures.cases.0 c.in-Some-split_first.ensures.cases.0 m.right c.in-Less.ensures)
 
 pub are_below-returns-then-not-is_below : goal.are_below-returns-then-not-is_below
 are_below-returns-then-not-is_below t c =
     let m = c.loop-x.invariant in
-    let k = type_of c.args.values.now in
-    answer_no m.answer (above_at_key (join_of k) (Valid k) (bottom_of k) _ _ _ _ _ _ c.in-Some.ensures.cases.0 c.in-Some-split_first.ensures.cases.0 m.right c.in-Equal.ensures (λ j. both_ways _ c.if-not-is_below.true (c.is_below.ensures.1 j)))
+    let k = domain_of_any c.args.values.now in
+    answer_no m.answer (above_at_key (joined_of k) (IsValueOf k) (least_of k) _ _ _ _ _ _ c.in-Some.ensures.cases.0 c.in-Some-split_first.ensures.cases.0 m.right c.in-Equal.ensures (λ j. both_ways _ c.if-not-is_below.true (c.is_below.ensures.1 j)))
 
 pub are_below-loop-x-preserved-in-Equal : goal.are_below-loop-x-preserved-in-Equal
 are_below-loop-x-preserved-in-Equal t c =
     let m = c.loop-x.invariant in
-    let k = type_of c.args.values.now in
+    let k = domain_of_any c.args.values.now in
     let a = c.in-Some.ensures.cases.0 in
     let b = c.in-Some-split_first.ensures.cases.0 in
     record {
       left = rest_passed _ _ _ _ _ a m.left;
       right = rest_passed _ _ _ _ _ b m.right;
-      answer = iff_then (below_at_key (join_of k) (Valid k) (bottom_of k) _ _ _ _ _ _ a b m.right c.in-Equal.ensures (c.is_below.ensures.0 c.if-not-is_below.false)) m.answer;
+      answer = iff_then (below_at_key (joined_of k) (IsValueOf k) (least_of k) _ _ _ _ _ _ a b m.right c.in-Equal.ensures (c.is_below.ensures.0 c.if-not-is_below.false)) m.answer;
     }
 
 pub are_below-loop-x-preserved : goal.are_below-loop-x-preserved
 are_below-loop-x-preserved t c =
     let m = c.loop-x.invariant in
-    let k = type_of c.args.values.now in
+    let k = domain_of_any c.args.values.now in
     let a = c.in-Some.ensures.cases.0 in
     let b = c.in-Some-split_first.ensures.cases.0 in
     record {
       left = m.left;
       right = rest_passed _ _ _ _ _ b m.right;
-      answer = iff_then (below_past (join_of k) (Valid k) (bottom_of k) _ _ _ _ _ _ a b m.left m.right c.in-Greater.ensures) m.answer;
+      answer = iff_then (below_past (joined_of k) (IsValueOf k) (least_of k) _ _ _ _ _ _ a b m.left m.right c.in-Greater.ensures) m.answer;
     }
 
 pub are_below-returns : goal.are_below-returns
 are_below-returns t c =
     let m = c.loop-x.invariant in
-    let k = type_of c.args.values.now in
-    answer_yes m.answer (below_at_end (join_of k) (Valid k) (bottom_of k) _ _ m.right c.in_default.ensures.cases)
+    let k = domain_of_any c.args.values.now in
+    answer_yes m.answer (below_at_end (joined_of k) (IsValueOf k) (least_of k) _ _ m.right c.in_default.ensures.cases)

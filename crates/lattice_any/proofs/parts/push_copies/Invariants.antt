@@ -1,5 +1,5 @@
 use Rattle.std.proofs.Common.{◌≡◌, ◌++◌, take}
-use Rattle.flow_syntax.specs.Lattices.{pairs_of}
+use Rattle.value_domains.specs.Values.{pairs_of}
 use Rattle.lattice_any.proofs.parts.push_copies.Given as goal
 
 abbrev pub invariant-loop-entry : goal.invariant-loop-entry

@@ -1,6 +1,6 @@
--- Each type without a table is a lattice.
+-- Each domain whose tables keep the laws is a lattice.
 use Rattle.std.proofs.Common.{◌≡◌, ◌↔◌, Bool, true, false, cond, List, [], ◌∷◌, refl, sym, ap, ◌∙◌, subst}
-use Rattle.std.specs.Prelude.{⊤, All}
+use Rattle.std.specs.Prelude.{ℕ, ⊤, All, IsTrue}
 use Rattle.std.specs.List.Sorted.{IsStrictlySortedBy}
 use Rattle.std.specs.Map.{keys_of}
 use Rattle.std.specs.Ordering.{eq_by_cmp}
@@ -13,7 +13,9 @@ use Rattle.flow_term.specs.declared.value.Value.{Value, Value-F, out-Value, roll
 use Rattle.flow_term.specs.declared.value.Value.TheVariants as value
 use Rattle.flow_term.specs.declared.value.Entry.{Entry}
 use Rattle.flow_term.specs.Elements.{elem_cmp}
-use Rattle.flow_syntax.specs.Types.{Sort, Lattice, may, must, flat, map_to, pair_of, table}
+use Rattle.flow_syntax.specs.Types.{Sort}
+use Rattle.value_domains.specs.Lawful.{IsLawfulTable, IsLawful}
+use Rattle.value_domains.specs.Domains.{Domain, may, must, flat, map_to, pair_of, listed, Table, has_element, table_join, item_in, IsListed, least_of, IsValueOf, joined_of, IsBelowIn}
 use Rattle.lattice_base.specs.Laws.{JoinLaws, OrderLaw}
 use Rattle.lattice_sets.specs.declared.must.MustV.{MustV}
 use Rattle.lattice_sets.specs.declared.must.MustV.TheVariants as must_value
@@ -29,13 +31,13 @@ use Rattle.lattice_sets.specs.MustLaws.{must_laws, must_order}
 use Rattle.lattice_sets.specs.FlatLaws.{flat_laws, flat_order}
 use Rattle.lattice_sets.specs.MapLaws.{map_laws, map_order}
 use Rattle.lattice_sets.specs.PairLaws.{pair_laws, pair_order}
-use Rattle.lattice_any.specs.Carried.{carried_laws, carried_order, part_laws, part_order}
-use Rattle.lattice_any.specs.Elements.{elem_total, elem_exact}
-use Rattle.flow_syntax.specs.Lattices.{IsOfSort, IsMapOf, union_of, Includes, value_at, joined_to, map_join, ValueLayer, pairs_of, entries_of, elems_in, map_in, left_in, right_in, IsMay, IsMust, IsFlat, IsMapTo, IsPairOf, must_join, flat_join, IsBelowMust, IsBelowFlat, least_of, IsValueOf, joined_of, IsBelowIn, HasNoTable}
+use Rattle.value_domains.specs.inner.Carried.{carried_laws, carried_order, part_laws, part_order}
+use Rattle.value_domains.specs.inner.Elements.{elem_total, elem_exact}
+use Rattle.value_domains.specs.Values.{IsOfSort, IsMapOf, union_of, Includes, value_at, joined_to, map_join, ValueLayer, pairs_of, entries_of, elems_in, map_in, left_in, right_in, IsMay, IsMust, IsFlat, IsMapTo, IsPairOf, must_join, flat_join, IsBelowMust, IsBelowFlat}
 
--- -- may sets
+-- MAY SETS
 
-all_union : (P : Elem → Type 0) (a b : List Elem) → All P a → All P b → All P (union_of a b)
+pub all_union : (P : Elem → Type 0) (a b : List Elem) → All P a → All P b → All P (union_of a b)
 all_union P a [] ha hb = ha
 all_union P a (x ∷ xs) ha hb = all_union P (insert_key elem_cmp a x) xs (All-insert_key elem_cmp x P a ha (All-head P x xs hb)) (All-tail P x xs hb)
 
@@ -83,7 +85,7 @@ order_may sort =
     (λ v h. may_opens sort (out-Value v) h) (may_wraps sort) refl (λ v w a b. refl)
     (λ a b. Includes b a) (set_order sort) (IsBelowIn (may sort)) (λ v w a b. (λ h. h, λ h. h))
 
--- -- must sets
+-- MUST SETS
 
 abbrev must_in : ValueLayer → MustV Elem
 must_in (Value-F.Set xs) = must_value.Set xs
@@ -177,7 +179,7 @@ order_must sort =
     must_wrap must_of must_opened (must_wrapped sort) (λ v h. must_opens sort (out-Value v) h) (must_wraps sort) (sym value.rolls-Unreached) (must_joined sort)
     must_sets.IsBelowMust (must_set_order sort) (IsBelowIn (must sort)) (λ v w a b. must_below_is sort (out-Value v) (out-Value w) a b)
 
--- -- flat values
+-- FLAT VALUES
 
 abbrev flat_in : ValueLayer → FlatV Elem
 flat_in Value-F.Bottom = flat_value.Bottom
@@ -300,9 +302,9 @@ order_flat sort =
     flat_wrap flat_of flat_opened (flat_wrapped sort) (λ v h. flat_opens sort (out-Value v) h) (flat_wraps sort) (sym value.rolls-Bottom) (flat_joined sort)
     flats.IsBelowFlat (flat_value_order sort) (IsBelowIn (flat sort)) (λ v w a b. flat_below_is sort (out-Value v) (out-Value w) a b)
 
--- -- maps
+-- MAPS
 
-all_keys : (P : Elem → Type 0) (join : Value → Value → Value) (a b : List (Elem × Value)) → All P (keys_of a) → All P (keys_of b) → All P (keys_of (map_join join a b))
+pub all_keys : (P : Elem → Type 0) (join : Value → Value → Value) (a b : List (Elem × Value)) → All P (keys_of a) → All P (keys_of b) → All P (keys_of (map_join join a b))
 all_keys P join a [] ha hb = ha
 all_keys P join a (e ∷ es) ha hb =
     let w = joined_to join (value_at a e.0) e.1 in
@@ -325,7 +327,7 @@ map_wrap m = value.Map (entries_of m)
 pub map_opened : (m : List (Elem × Value)) → map_of (map_wrap m) ≡ m
 map_opened m = ap map_in (value.outs-Map (entries_of m)) ∙ pairs_back m
 
-module _ (sort : Sort) (inner : Lattice) (laws : JoinLaws (IsValueOf inner) (least_of inner) (joined_of inner)) where
+module _ (sort : Sort) (inner : Domain) (laws : JoinLaws (IsValueOf inner) (least_of inner) (joined_of inner)) where
   abbrev IsMapValue : List (Elem × Value) → Type 0
   IsMapValue m = maps.IsMap elem_cmp (IsValueOf inner) (least_of inner) m × All (IsOfSort sort) (keys_of m)
 
@@ -364,7 +366,7 @@ module _ (sort : Sort) (inner : Lattice) (laws : JoinLaws (IsValueOf inner) (lea
       (maps.IsBelowMap elem_cmp (least_of inner) (IsBelowIn inner)) (map_order elem_cmp elem_total elem_exact (IsValueOf inner) (least_of inner) (joined_of inner) laws (IsBelowIn inner) order))
       (IsBelowIn (map_to sort inner)) (λ v w a b. (λ h. h, λ h. h))
 
--- -- pairs
+-- PAIRS
 
 abbrev pair_of_value : Value → PairV Value Value
 pair_of_value v = pair (left_in (out-Value v)) (right_in (out-Value v))
@@ -375,7 +377,7 @@ pair_wrap p = value.Pair p.left p.right
 pair_opened : (p : PairV Value Value) → pair_of_value (pair_wrap p) ≡ p
 pair_opened p = ap (λ l. pair (left_in l) (right_in l)) (value.outs-Pair p.left p.right)
 
-module _ (left right : Lattice) (laws_left : JoinLaws (IsValueOf left) (least_of left) (joined_of left)) (laws_right : JoinLaws (IsValueOf right) (least_of right) (joined_of right)) where
+module _ (left right : Domain) (laws_left : JoinLaws (IsValueOf left) (least_of left) (joined_of left)) (laws_right : JoinLaws (IsValueOf right) (least_of right) (joined_of right)) where
   abbrev IsPairValue : PairV Value Value → Type 0
   IsPairValue = IsPair (IsValueOf left) (IsValueOf right)
 
@@ -409,20 +411,53 @@ module _ (left right : Lattice) (laws_left : JoinLaws (IsValueOf left) (least_of
       (pair_order (IsValueOf left) (least_of left) (joined_of left) laws_left (IsValueOf right) (least_of right) (joined_of right) laws_right (IsBelowIn left) order_left (IsBelowIn right) order_right)
       (IsBelowIn (pair_of left right)) (λ v w a b. (λ h. h, λ h. h))
 
--- -- all of them
+-- DECLARED LATTICES
 
-pub lattice_laws : (inner : Lattice) → HasNoTable inner → JoinLaws (IsValueOf inner) (least_of inner) (joined_of inner)
-lattice_laws (may sort) h = laws_may sort
-lattice_laws (must sort) h = laws_must sort
-lattice_laws (flat sort) h = laws_flat sort
-lattice_laws (map_to sort values) h = laws_map sort values (lattice_laws values h)
-lattice_laws (pair_of left right) h = laws_pair left right (lattice_laws left h.0) (lattice_laws right h.1)
-lattice_laws (table name) h = absurd h
+-- a name that is an element of the table
+abbrev IsElementOf : Table → List ℕ → Type 0
+IsElementOf t x = IsTrue (has_element t x)
 
-pub lattice_order : (inner : Lattice) → HasNoTable inner → OrderLaw (IsValueOf inner) (joined_of inner) (IsBelowIn inner)
-lattice_order (may sort) h = order_may sort
-lattice_order (must sort) h = order_must sort
-lattice_order (flat sort) h = order_flat sort
-lattice_order (map_to sort values) h = order_map sort values (lattice_laws values h) (lattice_order values h)
-lattice_order (pair_of left right) h = order_pair left right (lattice_laws left h.0) (lattice_laws right h.1) (lattice_order left h.0) (lattice_order right h.1)
-lattice_order (table name) h = absurd h
+item_opened : (x : List ℕ) → item_in (out-Value (value.Item x)) ≡ x
+item_opened x = ap item_in (value.outs-Item x)
+
+listed_whole : (t : Table) (l : ValueLayer) → IsListed t l → value.Item (item_in l) ≡ roll-Value l
+listed_whole t (Value-F.Item x) h = sym (value.rolls-Item x)
+listed_whole t _ h = absurd h
+
+listed_opens : (t : Table) (l : ValueLayer) → IsListed t l → IsElementOf t (item_in l)
+listed_opens t (Value-F.Item x) h = h
+listed_opens t _ h = absurd h
+
+listed_wraps : (t : Table) (x : List ℕ) → IsElementOf t x → IsValueOf (listed t) (value.Item x)
+listed_wraps t x h = subst (IsListed t) (sym (value.outs-Item x)) h
+
+laws_listed : (t : Table) → IsLawfulTable t → JoinLaws (IsValueOf (listed t)) (least_of (listed t)) (joined_of (listed t))
+laws_listed t laws =
+    carried_laws (IsElementOf t) t.bottom (table_join t) laws (IsValueOf (listed t)) (value.Item t.bottom) (joined_of (listed t))
+    (λ x. value.Item x) (λ v. item_in (out-Value v)) item_opened (λ v h. listed_whole t (out-Value v) h ∙ roll-out-Value v)
+    (λ v h. listed_opens t (out-Value v) h) (listed_wraps t) refl (λ v w a b. refl)
+
+order_listed : (t : Table) → IsLawfulTable t → OrderLaw (IsValueOf (listed t)) (joined_of (listed t)) (IsBelowIn (listed t))
+order_listed t laws =
+    carried_order (IsElementOf t) t.bottom (table_join t) laws (IsValueOf (listed t)) (value.Item t.bottom) (joined_of (listed t))
+    (λ x. value.Item x) (λ v. item_in (out-Value v)) item_opened (λ v h. listed_whole t (out-Value v) h ∙ roll-out-Value v)
+    (λ v h. listed_opens t (out-Value v) h) (listed_wraps t) refl (λ v w a b. refl)
+    (λ a b. table_join t a b ≡ b) (λ a b _ _. (λ h. h, λ h. h)) (IsBelowIn (listed t)) (λ v w a b. (λ h. h, λ h. h))
+
+-- ALL OF THEM
+
+pub domain_laws : (inner : Domain) → IsLawful inner → JoinLaws (IsValueOf inner) (least_of inner) (joined_of inner)
+domain_laws (may sort) h = laws_may sort
+domain_laws (must sort) h = laws_must sort
+domain_laws (flat sort) h = laws_flat sort
+domain_laws (map_to sort values) h = laws_map sort values (domain_laws values h)
+domain_laws (pair_of left right) h = laws_pair left right (domain_laws left h.0) (domain_laws right h.1)
+domain_laws (listed t) h = laws_listed t h
+
+pub domain_order : (inner : Domain) → IsLawful inner → OrderLaw (IsValueOf inner) (joined_of inner) (IsBelowIn inner)
+domain_order (may sort) h = order_may sort
+domain_order (must sort) h = order_must sort
+domain_order (flat sort) h = order_flat sort
+domain_order (map_to sort values) h = order_map sort values (domain_laws values h) (domain_order values h)
+domain_order (pair_of left right) h = order_pair left right (domain_laws left h.0) (domain_laws right h.1) (domain_order left h.0) (domain_order right h.1)
+domain_order (listed t) h = order_listed t h

@@ -1,4 +1,4 @@
--- What each type of a specification is as a lattice: its values, the least of them, their joins and their order.
+-- The values of lattices by their forms, without declared lattices: which they are, their joins and their order.
 use Rattle.std.specs.Prelude.{◌≡◌, Bool, true, false, ◌&&◌, cond, ⊤, IsTrue, List, [], ◌∷◌, map, All, Contains, Option, Some, None, unwrap_or}
 use Rattle.std.specs.List.{filter, list_any}
 use Rattle.std.specs.List.Sorted.{IsStrictlySortedBy}
@@ -7,14 +7,13 @@ use Rattle.std.specs.BTreeSet.{insert_key}
 use Rattle.std.specs.BTreeMap.{insert_entry, is_at}
 use Rattle.std.specs.Map.{keys_of, values_of, lookup}
 use Rattle.flow_term.specs.declared.elem.Elem.{Elem, Elem-F, out-Elem}
-use Rattle.flow_term.specs.declared.value.Value.{Value, Value-F, out-Value, roll-Value}
+use Rattle.flow_term.specs.declared.value.Value.{Value, Value-F}
 use Rattle.flow_term.specs.declared.value.Entry.{Entry}
 use Rattle.flow_term.specs.declared.value.Value.TheVariants as value
 use Rattle.flow_term.specs.Elements.{elem_cmp}
-use Rattle.flow_syntax.specs.declared.types.LatticeType.{LatticeType}
-use Rattle.flow_syntax.specs.Types.{Sort, name_sort, pos_sort, str_sort, int_sort, enum_sort, pair_sort, Lattice, may, must, flat, map_to, pair_of, table, lattice_of}
+use Rattle.flow_syntax.specs.Types.{Sort, name_sort, pos_sort, str_sort, int_sort, enum_sort, pair_sort}
 
--- -- elements
+-- ELEMENTS
 
 -- whether an element, given by its form, is of a sort; an item is of every enum
 abbrev pub form_has_sort : Sort → Elem-F Elem → Bool
@@ -33,7 +32,7 @@ is_of_sort sort elem = form_has_sort sort (out-Elem elem)
 abbrev pub IsOfSort : Sort → Elem → Type 0
 IsOfSort sort elem = IsTrue (is_of_sort sort elem)
 
--- -- sets
+-- SETS
 
 -- the elements rise strictly and are of the sort
 pub record IsSetOf (sort : Sort) (xs : List Elem) : Type 0 where
@@ -57,7 +56,7 @@ intersection_of a b = filter (λ x. has_elem b x) a
 abbrev pub Includes : List Elem → List Elem → Type 0
 Includes a b = (x : Elem) → Contains b x → Contains a x
 
--- -- maps, as lists of keys with their values
+-- MAPS, as lists of keys with their values
 
 -- the keys rise strictly and are of the sort, and each value is one of the inner lattice and isn't its least
 pub record IsMapOf (sort : Sort) (IsInner : Value → Type 0) (least : Value) (m : List (Elem × Value)) : Type 0 where
@@ -83,7 +82,7 @@ abbrev pub map_join : (Value → Value → Value) → List (Elem × Value) → L
 map_join join a [] = a
 map_join join a (e ∷ es) = map_join join (insert_entry elem_cmp a e.0 (joined_to join (value_at a e.0) e.1)) es
 
--- -- values by their forms
+-- VALUES BY THEIR FORMS
 
 -- the form of a value, with its parts
 abbrev pub ValueLayer : Type 0
@@ -176,70 +175,3 @@ IsBelowFlat Value-F.Bottom b = ⊤
 IsBelowFlat a Value-F.Top = ⊤
 IsBelowFlat (Value-F.Flat x) (Value-F.Flat y) = x ≡ y
 IsBelowFlat _ _ = ⊥
-
--- -- lattices, by recursion on the type; what a declared lattice has is said by its table, and it has no value here
-
--- the least value
-abbrev pub least_of : Lattice → Value
-least_of (may sort) = value.Set []
-least_of (must sort) = value.Unreached
-least_of (flat sort) = value.Bottom
-least_of (map_to sort values) = value.Map []
-least_of (pair_of left right) = value.Pair (least_of left) (least_of right)
-least_of (table name) = value.Bottom
-
--- whether a value is one of the lattice
-abbrev pub IsValueOf : Lattice → Value → Type 0
-IsValueOf (may sort) v = IsMay sort (out-Value v)
-IsValueOf (must sort) v = IsMust sort (out-Value v)
-IsValueOf (flat sort) v = IsFlat sort (out-Value v)
-IsValueOf (map_to sort values) v = IsMapTo sort (IsValueOf values) (least_of values) (out-Value v)
-IsValueOf (pair_of left right) v = IsPairOf (IsValueOf left) (IsValueOf right) (out-Value v)
-IsValueOf (table name) v = ⊥
-
--- the join of two values
-abbrev pub joined_of : Lattice → Value → Value → Value
-joined_of (may sort) a b = value.Set (union_of (elems_in (out-Value a)) (elems_in (out-Value b)))
-joined_of (must sort) a b = roll-Value (must_join (out-Value a) (out-Value b))
-joined_of (flat sort) a b = roll-Value (flat_join (out-Value a) (out-Value b))
-joined_of (map_to sort values) a b = value.Map (entries_of (map_join (joined_of values) (map_in (out-Value a)) (map_in (out-Value b))))
-joined_of (pair_of left right) a b = value.Pair (joined_of left (left_in (out-Value a)) (left_in (out-Value b))) (joined_of right (right_in (out-Value a)) (right_in (out-Value b)))
-joined_of (table name) a b = a
-
--- whether one value is below another: of maps at each key, of pairs in each part
-abbrev pub IsBelowIn : Lattice → Value → Value → Type 0
-IsBelowIn (may sort) a b = Includes (elems_in (out-Value b)) (elems_in (out-Value a))
-IsBelowIn (must sort) a b = IsBelowMust (out-Value a) (out-Value b)
-IsBelowIn (flat sort) a b = IsBelowFlat (out-Value a) (out-Value b)
-IsBelowIn (map_to sort values) a b = (k : Elem) → IsBelowIn values (value_or (least_of values) (map_in (out-Value a)) k) (value_or (least_of values) (map_in (out-Value b)) k)
-IsBelowIn (pair_of left right) a b = IsBelowIn left (left_in (out-Value a)) (left_in (out-Value b)) × IsBelowIn right (right_in (out-Value a)) (right_in (out-Value b))
-IsBelowIn (table name) a b = ⊥
-
--- the values of a type
-abbrev pub Valid : LatticeType → Value → Type 0
-Valid type v = IsValueOf (lattice_of type) v
-
--- the least of them
-abbrev pub bottom_of : LatticeType → Value
-bottom_of type = least_of (lattice_of type)
-
--- the join of two
-abbrev pub join_of : LatticeType → Value → Value → Value
-join_of type a b = joined_of (lattice_of type) a b
-
--- whether the first is below the second, or equals it
-abbrev pub Below : LatticeType → Value → Value → Type 0
-Below type a b = IsBelowIn (lattice_of type) a b
-
--- -- tables
-
--- no part of the type is a table
-abbrev pub HasNoTable : Lattice → Type 0
-HasNoTable (map_to sort values) = HasNoTable values
-HasNoTable (pair_of left right) = HasNoTable left × HasNoTable right
-HasNoTable (table name) = ⊥
-HasNoTable _ = ⊤
-
--- the type names no table
-abbrev pub NamesNoTable : LatticeType → Type 0
-NamesNoTable type = HasNoTable (lattice_of type)
