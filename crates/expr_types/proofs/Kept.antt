@@ -20,10 +20,10 @@ use Rattle.expr_types.proofs.One.{types_unique}
 
 module _ (spec : Spec) where
   -- an expression is listed with types, wherever it stands
-  abbrev IsListed : Expr → Type 0
+  abbrev pub IsListed : Expr → Type 0
   IsListed e = (s : Scope) (w : Want) → (ts : List Typing) × AreListed spec (place s w e ∷ []) ts
 
-  list_all : (ps : List Place) → AllByRecursion IsListed (exprs ps) → (ts : List Typing) × AreListed spec ps ts
+  pub list_all : (ps : List Place) → AllByRecursion IsListed (exprs ps) → (ts : List Typing) × AreListed spec ps ts
   list_all [] h = ([], none)
   list_all (p ∷ ps) h = join (h.0 p.scope p.want) (list_all ps h.1)
     where
@@ -35,7 +35,7 @@ module _ (spec : Spec) where
       let inner = list_all (parts_of spec (place s w e)) (subst (λ (es : List Expr). AllByRecursion IsListed es) (sym (exprs_parts spec s w (expr_layer e))) parts) in
       (_, next (place s w e) [] inner.0 [] inner.1 none)
 
-  each_listed : (es : List Expr) → AllByRecursion IsListed es
+  pub each_listed : (es : List Expr) → AllByRecursion IsListed es
   each_listed [] = tt
   each_listed (e ∷ es) = (by_induction IsListed list_step e, each_listed es)
 

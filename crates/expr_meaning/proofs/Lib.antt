@@ -1,0 +1,17 @@
+pub mod BinderMoves
+pub mod Bound
+pub mod Follows
+pub mod FormMoves
+pub mod Laws
+pub mod Made
+pub mod Making
+pub mod MapMoves
+pub mod Members
+pub mod Moving
+pub mod PartMoves
+pub mod Ranges
+pub mod Same
+pub mod SetForms
+pub mod Sound
+pub mod TypedParts
+pub mod ValueForms

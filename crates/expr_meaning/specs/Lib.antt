@@ -1,0 +1,10 @@
+pub mod Functions
+pub mod Laws
+pub mod Making
+pub mod Meaning
+pub mod Modes
+pub mod Monotone
+pub mod Ranges
+pub mod Same
+pub mod SpecRanges
+pub mod Typing

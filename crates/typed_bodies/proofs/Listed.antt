@@ -1,0 +1,79 @@
+-- The list of a specification's expressions has the parts of each, and each expression that stands at a place.
+use Rattle.std.proofs.Common.{◌≡◌, ℕ, zero, suc, List, [], ◌∷◌, ◌++◌, map, arith, sym, ap, subst, inl, inr}
+use Rattle.std.specs.Prelude.{Contains}
+use Rattle.std.specs.List.{AllByRecursion, flat_map}
+use Rattle.std.proofs.lemmas.List.Elements.{Contains-append_left, Contains-append_right, Contains-append_cases}
+use Rattle.flow_syntax.specs.declared.expr.Expr.{Expr}
+use Rattle.flow_syntax.specs.declared.spec.Spec.{Spec}
+use Rattle.flow_syntax.specs.Expressions.{expr_layer, parts_of as exprs_of, preorder, all_of_option, expressions_of, expressions_of_message}
+use Rattle.flow_syntax.specs.ExprPlaces.{Place, parts_of}
+use Rattle.flow_syntax.specs.ExprTypes.{wholes_of}
+use Rattle.flow_syntax.specs.Types.{Typing}
+use Rattle.flow_syntax.proofs.Listed.{Contains_here, Contains_behind}
+use Rattle.flow_syntax.proofs.Parts.{by_induction}
+use Rattle.flow_syntax.proofs.Preorders.{preorder_out}
+use Rattle.expr_types.specs.Listing.{ArePlaces, nowhere, there}
+use Rattle.expr_types.proofs.Order.{exprs, exprs_parts, types_in_order}
+use Rattle.expr_meaning.specs.Making.{HasParts}
+use Rattle.typed_bodies.specs.Accepted.{IsTypedBy}
+use Rattle.typed_bodies.specs.Anywhere.{IsPlaceIn, whole, part}
+use Rattle.typed_bodies.proofs.Bodies.{in_map}
+
+-- LISTS THAT HAVE THE PARTS OF EACH
+
+parts_append : (xs ys : List Expr) → HasParts xs → HasParts ys → HasParts (xs ++ ys)
+parts_append xs ys h k e p among inside = elim (Contains-append_cases xs ys e among) [
+  | inl left ↦ Contains-append_left xs ys p (h e p left inside)
+  | inr right ↦ Contains-append_right xs ys p (k e p right inside)
+]
+
+nothing_has_parts : HasParts []
+nothing_has_parts e p (k, l, i) inside = absurd (omega (arith, l))
+
+parts_flat : {X : Type 0} (f : X → List Expr) → ((x : X) → HasParts (f x)) → (xs : List X) → HasParts (flat_map f xs)
+parts_flat f each [] = nothing_has_parts
+parts_flat f each (x ∷ xs) = parts_append (f x) (flat_map f xs) (each x) (parts_flat f each xs)
+
+in_flat : (es : List Expr) (e : Expr) → Contains es e → Contains (flat_map preorder es) e
+in_flat [] e (k, l, i) = absurd (omega (arith, l))
+in_flat (x ∷ xs) e (zero, l, i) =
+    Contains-append_left (preorder x) (flat_map preorder xs) e (subst (λ (zs : List Expr). Contains zs e) (sym (preorder_out x)) (subst (λ (y : Expr). Contains (x ∷ flat_map preorder (exprs_of x)) y) i (Contains_here x (flat_map preorder (exprs_of x)))))
+in_flat (x ∷ xs) e (suc k, l, i) = Contains-append_right (preorder x) (flat_map preorder xs) e (in_flat xs e (k, omega arith, i))
+
+each_flat : (es : List Expr) → AllByRecursion (λ e. HasParts (preorder e)) es → HasParts (flat_map preorder es)
+each_flat [] h = nothing_has_parts
+each_flat (e ∷ es) h = parts_append (preorder e) (flat_map preorder es) h.0 (each_flat es h.1)
+
+preorder_step : (e : Expr) → AllByRecursion (λ e. HasParts (preorder e)) (exprs_of e) → HasParts (preorder e)
+preorder_step e parts = subst HasParts (sym (preorder_out e)) by
+  where
+    by : HasParts (e ∷ flat_map preorder (exprs_of e))
+    by x p (zero, l, i) inside = Contains_behind e (flat_map preorder (exprs_of e)) p (in_flat (exprs_of e) p (subst (λ (y : Expr). Contains (exprs_of y) p) (sym i) inside))
+    by x p (suc k, l, i) inside = Contains_behind e (flat_map preorder (exprs_of e)) p (each_flat (exprs_of e) parts x p (k, omega arith, i) inside)
+
+preorder_parts : (e : Expr) → HasParts (preorder e)
+preorder_parts = by_induction (λ e. HasParts (preorder e)) preorder_step
+
+-- the expressions of a specification have the parts of each
+pub expressions_parts : (spec : Spec) → HasParts (expressions_of spec)
+expressions_parts spec =
+    parts_append (flat_map (λ rule. preorder rule.body) spec.rules) (flat_map expressions_of_message spec.messages)
+    (parts_flat (λ rule. preorder rule.body) (λ rule. preorder_parts rule.body) spec.rules)
+    (parts_flat expressions_of_message (λ m. parts_flat preorder preorder_parts (all_of_option m.condition)) spec.messages)
+
+-- PLACES
+
+module _ (spec : Spec) where
+  in_places : (ps places : List Place) → ArePlaces spec ps places → (q : Place) → Contains ps q → Contains places q
+  in_places _ _ nowhere q among = among
+  in_places _ _ (there p ps inner others d e) q (zero, l, i) = subst (λ (y : Place). Contains (p ∷ inner ++ others) y) i (Contains_here p (inner ++ others))
+  in_places _ _ (there p ps inner others d e) q (suc k, l, i) = Contains_behind p (inner ++ others) q (Contains-append_right inner others q (in_places ps others e q (k, omega arith, i)))
+
+  -- an expression that stands at a place is one of the specification's
+  pub place_listed : (types : List Typing) → IsTypedBy spec types → (q : Place) → IsPlaceIn spec q → Contains (expressions_of spec) q.expr
+  place_listed types typed _ (whole q among) =
+      let order = (types_in_order spec types).0 typed.are in
+      subst (λ (es : List Expr). Contains es q.expr) order.stand (in_map (λ (p : Place). p.expr) order.places q (in_places (wholes_of spec) order.places order.all q among))
+  place_listed types typed _ (part p q stands among) =
+      expressions_parts spec p.expr q.expr (place_listed types typed p stands)
+      (subst (λ (es : List Expr). Contains es q.expr) (exprs_parts spec p.scope p.want (expr_layer p.expr)) (in_map (λ (r : Place). r.expr) (parts_of spec p) q among))
