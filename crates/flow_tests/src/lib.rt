@@ -12,8 +12,6 @@ mod graphs;
 #[cfg(test)]
 mod lexical;
 #[cfg(test)]
-mod lists;
-#[cfg(test)]
 mod nesting;
 #[cfg(test)]
 mod paths;
@@ -21,8 +19,6 @@ mod paths;
 mod program;
 #[cfg(test)]
 mod rows;
-#[cfg(test)]
-mod sets;
 #[cfg(test)]
 mod signatures;
 #[cfg(test)]

@@ -1,7 +1,27 @@
 //! The lists of a worklist solver.
-use index_lists::TraceList;
+use index_lists::{TraceList, WorkQueue};
 use std::alloc::{AllocError, Global};
 use std::test::Fail;
+
+#[test]
+fn a_queue_keeps_the_order_of_what_is_left(rt: HostRuntime) -> Result<(), Fail> {
+    let mut queue = WorkQueue::new(rt.alloc());
+    queue.grow(4)?;
+    queue.push(2);
+    queue.push(0);
+    queue.push(3);
+    queue.push(2);
+    queue.push(1);
+    assert_eq!(rt; queue.len(), 4);
+    assert!(rt; queue.remove(0));
+    assert!(rt; !queue.remove(0));
+    assert!(rt; queue.contains(3) && !queue.contains(0) && !queue.contains(9));
+    assert_eq!(rt; queue.pop_at(1), 3);
+    assert_eq!(rt; queue.pop_at(0), 2);
+    assert_eq!(rt; queue.pop_at(0), 1);
+    assert_eq!(rt; queue.len(), 0);
+    Ok(())
+}
 
 /// The steps that are left, once those of a target are taken out.
 fn left_in_trace(alloc: Global) -> Result<Vec<(usize, usize)>, AllocError> {

@@ -1,4 +1,4 @@
-//! Operations on sets, at numbers.
+//! Operations on sets, at numbers; the size of a count of steps.
 use flow_term::List;
 use lattice_base::Steps;
 use lattice_sets::{SortedSet, contains, includes, inter, minus, union};
@@ -6,7 +6,8 @@ use std::alloc::{AllocError, Global};
 use std::marker::Brand;
 use std::test::Fail;
 
-fn set_of(alloc: Global, numbers: &[u32]) -> Result<SortedSet<u32>, AllocError> {
+/// The set of the numbers.
+pub(crate) fn set_of(alloc: Global, numbers: &[u32]) -> Result<SortedSet<u32>, AllocError> {
     let mut set = SortedSet::new(alloc);
     for number in numbers {
         set.insert(*number)?;
