@@ -17,7 +17,7 @@ use crate::print::print_graph;
 use crate::status::Status;
 use crate::words::{Request, read_words};
 use flow_io::{Folder, Sink, write_all};
-use flow_links::{plain_edges, plain_nodes};
+use flow_links::plain_graph;
 use flow_syntax::TypedSpec;
 use flow_term::{List, Term, Text};
 use std::alloc::{AllocError, Global};
@@ -163,7 +163,6 @@ fn draw(alloc: Global, spec: &TypedSpec, tree: &Term) -> Result<Vec<u8>, AllocEr
     requires { term_size tree.now < 2 ^ 32 }
     ensures { IfOk result (λ bytes. GraphText spec.now.spec tree.now bytes.items) }
 {
-    let nodes = plain_nodes(alloc, spec, tree)?;
-    let edges = plain_edges(alloc, spec, tree)?;
-    print_graph(alloc, &nodes, &edges)
+    let graph = plain_graph(alloc, spec, tree)?;
+    print_graph(alloc, &graph.nodes, &graph.edges)
 }

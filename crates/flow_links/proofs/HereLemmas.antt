@@ -22,9 +22,6 @@ use Rattle.flow_links.specs.Here.{PairsBelow, ChainsOf, RuleLinks, NextBelow, Li
 pub Adds-none : {P : Point → Point → Type 0} (xs : List Link) → ((a b : Point) → ¬ P a b) → Adds xs xs P
 Adds-none xs h = record { each = λ a b. (λ k. inl k, λ k. elim k [ inl before ↦ before | inr p ↦ absurd (h a b p) ]) }
 
-pub no_pairs : (rule : FlowRule) (items : List Item) (path : List ℕ) (a b : Point) → ¬ PairsBelow rule items path 1 a b
-no_pairs rule items path a b p = let f : p.k + 1 < 1 = p.before in absurd (omega arith)
-
 module _ (rule : FlowRule) (items : List Item) (path : List ℕ) (k j : ℕ) (left right : Item) (after_j : k ≡ j + 1) (is_left : slice_get items j ≡ Some left) (is_right : slice_get items k ≡ Some right) (a b : Point) where
   pair : (leaving rule path left.kind ≡ Some a) × (arriving rule path right.kind ≡ Some b) → PairsBelow rule items path (k + 1) a b
   pair h = record { k = j; before = omega arith; left = left; right = right; is_left = is_left; is_right = ap (slice_get items) (sym after_j) ∙ is_right; leaves = h.0; arrives = h.1 }
@@ -67,9 +64,6 @@ chains_push rule chains chain path a b = (
   ],
 )
 
-pub no_chains : (rule : FlowRule) (path : List ℕ) (a b : Point) → ¬ ChainsOf rule [] path a b
-no_chains rule path a b p = let f : p.has.0 < 0 = p.has.1 in absurd (omega arith)
-
 -- the links between items, up to the item k + 1
 pub nexts_more : (path : List ℕ) (k : ℕ) → 0 < k → (a b : Point)
     → (NextBelow path k a b ⊎ ((a ≡ point.Out (below path (k - 1))) × (b ≡ point.In (below path k)))) ↔ NextBelow path (k + 1) a b
@@ -87,9 +81,6 @@ nexts_more path k some a b = (
       p.leaves ∙ ap (λ (n : ℕ). point.Out (below path n)) (let e : p.k ≡ k - 1 = omega arith in e),
       p.arrives ∙ ap (λ (n : ℕ). point.In (below path n)) same,
     )
-
-pub no_nexts : (path : List ℕ) (n : ℕ) → n ≤ 1 → (a b : Point) → ¬ NextBelow path n a b
-no_nexts path n few a b p = let f : p.k + 1 < n = p.before in absurd (omega arith)
 
 -- a list without items is passed through
 pub empty_list : (path : List ℕ) (n : ℕ) → n ≡ 0 → (a b : Point) → ((a ≡ point.In path) × (b ≡ point.Out path)) ↔ ListLinks path n a b

@@ -2,6 +2,8 @@ pub mod BelowLemmas
 pub mod EdgeLemmas
 pub mod EndLemmas
 pub mod HereLemmas
+pub mod LinkLists
+pub mod MarkLemmas
 pub mod NumberLemmas
 pub mod Once
 pub mod ReachLemmas

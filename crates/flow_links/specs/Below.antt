@@ -1,13 +1,12 @@
 -- The links that the positions below a term make, and what a list of links gains.
-use Rattle.std.specs.Prelude.{◌≡◌, ℕ, ◌<◌, ◌⊎◌, ◌↔◌, Bool, List, ◌++◌, Option, Some, Contains, slice_get}
+use Rattle.std.specs.Prelude.{◌≡◌, ℕ, ◌<◌, ◌⊎◌, ◌↔◌, Bool, false, List, ◌++◌, Some, Contains, get_or, slice_get}
 use Rattle.flow_term.specs.declared.term.Term.{Term}
 use Rattle.flow_term.specs.declared.graph.Point.{Point}
 use Rattle.flow_term.specs.declared.graph.Link.{Link}
 use Rattle.flow_term.specs.contracts.graph.LinkPartialEq.TheImpl as derived
 use Rattle.flow_term.specs.Trees.{At, children}
-use Rattle.flow_syntax.specs.declared.rule.FlowRule.{FlowRule}
 use Rattle.flow_syntax.specs.declared.spec.Spec.{Spec}
-use Rattle.flow_syntax.specs.Control.{entered_below, enters_child, rule_for}
+use Rattle.flow_syntax.specs.Control.{entered_below, rule_for}
 use Rattle.flow_syntax.specs.Graph.{LinksAt, below}
 
 abbrev pub link : Point → Point → Link
@@ -28,10 +27,10 @@ pub record LinksBelow (spec : Spec) (entered : Bool) (t : Term) (path : List ℕ
   pub position : At t rest ≡ Some u
   pub made : LinksAt (rule_for spec u) (entered_below spec entered t rest) u (path ++ rest) a b
 
--- A link that a position at or below one of the first n children makes, where the parent has this matching rule.
-pub record LinksInChildren (spec : Spec) (matching : Option FlowRule) (entered : Bool) (t : Term) (path : List ℕ) (n : ℕ) (a b : Point) : Type 0 where
+-- A link that a position at or below one of the first n children makes, where the marks say which of them are entered.
+pub record LinksInChildren (spec : Spec) (marks : List Bool) (t : Term) (path : List ℕ) (n : ℕ) (a b : Point) : Type 0 where
   pub k : ℕ
   pub first : k < n
   pub child : Term
   pub is : slice_get (children t) k ≡ Some child
-  pub inside : LinksBelow spec (enters_child matching entered t k) child (below path k) a b
+  pub inside : LinksBelow spec (get_or marks k false) child (below path k) a b

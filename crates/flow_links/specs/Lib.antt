@@ -2,5 +2,6 @@ pub mod Below
 pub mod Ends
 pub mod Gains
 pub mod Here
+pub mod Marks
 pub mod Numbers
 pub mod Reach

@@ -1,6 +1,5 @@
 //! The links of a tree, position by position.
-ghost use Rattle.std.specs.Prelude.{◌≡◌, ◌^◌, ◌<◌, ◌↔◌, Contains, IfOk, OnOk, length, false};
-ghost use Rattle.std.specs.Option.{option_copied};
+ghost use Rattle.std.specs.Prelude.{◌≡◌, ◌^◌, ◌<◌, ◌↔◌, Contains, IfOk, OnOk, get_or, length, false};
 ghost use Rattle.flow_term.specs.declared.graph.Link.{Link as LinkValue};
 ghost use Rattle.flow_term.specs.Orders.{EachOnce};
 ghost use Rattle.flow_term.specs.Trees.{children, term_size};
@@ -9,8 +8,8 @@ ghost use Rattle.flow_links.specs.Below.{Adds, LinksBelow, LinksInChildren};
 
 use crate::here::add_here;
 use crate::link_set::LinkSet;
-use crate::rules::{is_child_entered, matching_rule};
-use flow_syntax::{FlowRule, Spec, TypedSpec};
+use crate::rules::{entered_children, matching_rule};
+use flow_syntax::{Spec, TypedSpec};
 use flow_term::{Link, List, Term};
 use std::alloc::{AllocError, Global};
 
@@ -21,57 +20,80 @@ pub fn links(alloc: Global, spec: &TypedSpec, tree: &Term) -> Result<List<Link>,
     ensures exactly { IfOk result (λ links. (link : LinkValue) → Contains links link ↔ IsLink spec.now.spec tree.now link.from link.to) }
     ensures once { IfOk result EachOnce }
 {
+    let mut path = Vec::new(alloc);
     let mut out = LinkSet::new(alloc);
-    add_below(alloc, &spec.spec, false, tree, &[], &mut out)?;
+    add_below(alloc, &spec.spec, false, tree, &mut path, &mut out)?;
     out.into_list(alloc)
 }
 
-/// The path of a child.
-fn extended(alloc: Global, path: &[u32], n: u32) -> Result<Vec<u32>, AllocError>
-    ensures { IfOk result (λ longer. longer.items ≡ below path.now n) }
-{
-    let mut longer = Vec::from_slice(alloc, path)?;
-    longer.push(n)?;
-    Ok(longer)
-}
-
-/// Adds the links of the positions at and below a term.
+/// Adds the links of the positions at and below a term, of which the path is given and given back.
 #[cycle(collect)]
 fn add_below(
     alloc: Global,
     spec: &Spec,
     entered: bool,
     term: &Term,
-    path: &[u32],
+    path: &mut Vec<u32>,
     out: &mut LinkSet,
 ) -> Result<(), AllocError>
     requires { term_size term.now < 2 ^ 32 }
-    ensures { OnOk result (Adds out.old out.new (LinksBelow spec.now entered term.now path.now)) }
+    ensures links { OnOk result (Adds out.old out.new (LinksBelow spec.now entered term.now path.old.items)) }
+    ensures path { OnOk result (path.new.items ≡ path.old.items) }
 {
     let matching = matching_rule(spec, term);
     add_here(alloc, matching, entered, term, path, out)?;
-    add_children(alloc, spec, matching, entered, term, path, out)
+    let marks = entered_children(alloc, matching, entered, term)?;
+    add_children(alloc, spec, marks.as_slice(), term, path, out)
 }
 
+/// The mark of the child with this number.
+fn is_marked(marks: &[bool], n: u32) -> bool
+    requires { n < length marks.now }
+    ensures { result ≡ get_or marks.now n false }
+{
+    marks[n as usize]
+}
+
+/// Adds the links of the positions at and below the children of a term, where the marks say which are entered.
 #[cycle(collect)]
 fn add_children(
     alloc: Global,
     spec: &Spec,
-    matching: Option<&FlowRule>,
-    entered: bool,
+    marks: &[bool],
     term: &Term,
-    path: &[u32],
+    path: &mut Vec<u32>,
     out: &mut LinkSet,
 ) -> Result<(), AllocError>
-    requires { term_size term.now < 2 ^ 32 }
-    ensures { OnOk result (Adds out.old out.new (LinksInChildren spec.now (option_copied matching.entry) entered term.now path.now (length (children term.now)))) }
+    requires small { term_size term.now < 2 ^ 32 }
+    requires marks { length marks.now ≡ length (children term.now) }
+    ensures links { OnOk result (Adds out.old out.new (LinksInChildren spec.now marks.now term.now path.old.items (length (children term.now)))) }
+    ensures path { OnOk result (path.new.items ≡ path.old.items) }
 {
     let mut n: u32 = 0;
     for child in term.children() {
-        let passed = is_child_entered(matching, entered, term, n as usize);
-        let longer = extended(alloc, path, n)?;
-        add_below(alloc, spec, passed, child, longer.as_slice(), out)?;
+        add_child(alloc, spec, is_marked(marks, n), n, child, path, out)?;
         n += 1;
     }
+    Ok(())
+}
+
+/// Adds the links of the positions at and below the child with this number.
+#[cycle(collect)]
+fn add_child(
+    alloc: Global,
+    spec: &Spec,
+    entered: bool,
+    n: u32,
+    child: &Term,
+    path: &mut Vec<u32>,
+    out: &mut LinkSet,
+) -> Result<(), AllocError>
+    requires { term_size child.now < 2 ^ 32 }
+    ensures links { OnOk result (Adds out.old out.new (LinksBelow spec.now entered child.now (below path.old.items n))) }
+    ensures path { OnOk result (path.new.items ≡ path.old.items) }
+{
+    path.push(n)?;
+    add_below(alloc, spec, entered, child, path, out)?;
+    path.pop();
     Ok(())
 }

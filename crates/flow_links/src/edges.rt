@@ -5,6 +5,7 @@ ghost use Rattle.flow_term.specs.declared.graph.Edge.{Edge as EdgeValue};
 ghost use Rattle.flow_term.specs.Orders.{edge_cmp};
 ghost use Rattle.flow_term.specs.Trees.{term_size};
 ghost use Rattle.flow_syntax.specs.Graph.{IsEdge, point_of};
+ghost use Rattle.flow_links.specs.Ends.{AreEdgesBy};
 ghost use Rattle.flow_links.specs.Gains.{Gains};
 ghost use Rattle.flow_links.specs.Numbers.{IsEdgeBelow, IsEdgeFrom, IsEdgeTo};
 ghost use Rattle.flow_links.specs.Reach.{IsArrow};
@@ -15,7 +16,7 @@ use crate::numbers::{PointGraph, number_points};
 use crate::ordered_set::{add, in_order};
 use crate::reach::reached;
 use flow_syntax::TypedSpec;
-use flow_term::{Edge, List, Node, Term};
+use flow_term::{Edge, Link, List, Node, Term};
 use std::alloc::{AllocError, Global};
 use std::collections::BTreeSet;
 
@@ -27,7 +28,15 @@ pub fn plain_edges(alloc: Global, spec: &TypedSpec, tree: &Term) -> Result<List<
     ensures ordered { IfOk result (IsStrictlySortedBy edge_cmp) }
 {
     let links = links(alloc, spec, tree)?;
-    let graph = number_points(alloc, links.as_slice())?;
+    edge_list(alloc, links.as_slice())
+}
+
+/// The edges of the tree that has these links, in order, each once.
+pub fn edge_list(alloc: Global, links: &[Link]) -> Result<List<Edge>, AllocError>
+    ensures exactly { IfOk result (λ edges. AreEdgesBy links.now edges) }
+    ensures ordered { IfOk result (IsStrictlySortedBy edge_cmp) }
+{
+    let graph = number_points(alloc, links)?;
     let edges = edges_of(alloc, &graph)?;
     in_order(alloc, edges)
 }

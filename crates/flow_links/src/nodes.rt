@@ -23,7 +23,15 @@ pub fn plain_nodes(alloc: Global, spec: &TypedSpec, tree: &Term) -> Result<List<
     ensures ordered { IfOk result (IsStrictlySortedBy node_cmp) }
 {
     let links = links(alloc, spec, tree)?;
-    let nodes = ends(alloc, links.as_slice())?;
+    node_list(alloc, links.as_slice())
+}
+
+/// The nodes at which links begin or end, in order, each once.
+pub fn node_list(alloc: Global, links: &[Link]) -> Result<List<Node>, AllocError>
+    ensures exactly { IfOk result (λ nodes. (node : NodeValue) → Contains nodes node ↔ IsEnd links.now node) }
+    ensures ordered { IfOk result (IsStrictlySortedBy node_cmp) }
+{
+    let nodes = ends(alloc, links)?;
     in_order(alloc, nodes)
 }
 

@@ -1,14 +1,16 @@
 //! What the control rules say of a term: which one matches it, and which of its children are entered.
-ghost use Rattle.std.specs.Prelude.{◌≡◌, ◌<◌, ◌≤◌, find, length, IfSome};
+ghost use Rattle.std.specs.Prelude.{◌≡◌, ◌<◌, ◌≤◌, ◌==◌, ℕ, false, find, length, IfOk, IfSome};
 ghost use Rattle.std.specs.List.{list_any, position_from};
-ghost use Rattle.std.specs.Option.{option_copied};
+ghost use Rattle.std.specs.Option.{option_copied, option_map_or};
 ghost use Rattle.flow_term.specs.Trees.{children};
 ghost use Rattle.flow_syntax.specs.Matching.{matches, pattern_layer};
-ghost use Rattle.flow_syntax.specs.Control.{argument, arguments_in, enters, enters_argument, enters_child, is_variable_in, rule_for};
+ghost use Rattle.flow_syntax.specs.Control.{argument, arguments_in, enters_argument, enters_child, is_variable_in, rule_for};
+ghost use Rattle.flow_links.specs.Marks.{AreMarks, Marks, entered_by};
 
 use crate::matching::is_match;
-use flow_syntax::{FlowRule, Item, ItemKind, Pattern, PatternKind, Spec};
+use flow_syntax::{Chain, FlowRule, Item, ItemKind, Pattern, PatternKind, Spec};
 use flow_term::{Kind, Term, Text};
+use std::alloc::{AllocError, Global};
 
 /// The matching rule of a term: the first whose head matches.
 pub fn matching_rule<'a>(spec: &'a Spec, term: &Term) -> Option<&'a FlowRule>
@@ -53,42 +55,77 @@ pub fn argument_number(rule: &FlowRule, name: &Text) -> Option<usize>
     }
 }
 
-fn is_entering(rule: &FlowRule, n: usize, kind: &ItemKind) -> bool
-    ensures { result ≡ enters_argument rule.now n kind.now }
+/// The number of the argument that an item enters.
+fn entered_argument(rule: &FlowRule, kind: &ItemKind) -> Option<usize>
+    ensures { (n : ℕ) → enters_argument rule.now n kind.now ≡ option_map_or (λ k. k == n) result false }
 {
     match kind {
-        ItemKind::Whole(name) => match argument_number(rule, name) {
-            Some(k) => k == n,
-            None => false,
-        },
-        _ => false,
+        ItemKind::Whole(name) => argument_number(rule, name),
+        _ => None,
     }
 }
 
-fn is_any_entering(rule: &FlowRule, n: usize, items: &[Item]) -> bool
-    ensures { result ≡ list_any (λ it. enters_argument rule.now n it.kind) items.now }
+/// Marks this number, if it has a mark.
+fn mark(marks: &mut Vec<bool>, n: usize)
+    ensures { Marks marks.old.items marks.new.items (λ k. n == k) }
 {
-    items.iter().any(|item| is_entering(rule, n, &item.kind))
+    if n < marks.len() {
+        marks[n] = true;
+    }
 }
 
-fn does_enter(rule: &FlowRule, n: usize) -> bool
-    ensures { result ≡ enters rule.now n }
+/// Marks the argument that an item enters.
+fn mark_item(rule: &FlowRule, kind: &ItemKind, marks: &mut Vec<bool>)
+    ensures { Marks marks.old.items marks.new.items (λ n. enters_argument rule.now n kind.now) }
 {
-    rule.chains
-        .as_slice()
-        .iter()
-        .any(|chain| is_any_entering(rule, n, chain.items.as_slice()))
+    if let Some(n) = entered_argument(rule, kind) {
+        mark(marks, n);
+    }
 }
 
-/// Whether the child of this number is entered, where `matching` is the matching rule of its parent.
-pub fn is_child_entered(matching: Option<&FlowRule>, entered: bool, term: &Term, n: usize) -> bool
-    ensures { result ≡ enters_child (option_copied matching.entry) entered term.now n }
+/// Marks the arguments that the items of a chain enter.
+fn mark_items(rule: &FlowRule, items: &[Item], marks: &mut Vec<bool>)
+    ensures { Marks marks.old.items marks.new.items (λ n. list_any (λ it. enters_argument rule.now n it.kind) items.now) }
 {
+    for item in items {
+        mark_item(rule, &item.kind, marks);
+    }
+}
+
+/// Marks the arguments that the chains of a rule enter.
+fn mark_chains(rule: &FlowRule, chains: &[Chain], marks: &mut Vec<bool>)
+    ensures { Marks marks.old.items marks.new.items (λ n. list_any (λ chain. list_any (λ it. enters_argument rule.now n it.kind) chain.items) chains.now) }
+{
+    for chain in chains {
+        mark_items(rule, chain.items.as_slice(), marks);
+    }
+}
+
+/// Marks the arguments that a rule enters, if the position counts by it.
+fn mark_rule(matching: Option<&FlowRule>, entered: bool, marks: &mut Vec<bool>)
+    ensures { Marks marks.old.items marks.new.items (entered_by (option_copied matching.entry) entered) }
+{
+    if let Some(rule) = matching {
+        if rule.root || entered {
+            mark_chains(rule, rule.chains.as_slice(), marks);
+        }
+    }
+}
+
+/// For each child whether it is entered, where `matching` is the matching rule of the parent.
+pub fn entered_children(
+    alloc: Global,
+    matching: Option<&FlowRule>,
+    entered: bool,
+    term: &Term,
+) -> Result<Vec<bool>, AllocError>
+    ensures { IfOk result (λ marks. AreMarks marks.items (length (children term.now)) (enters_child (option_copied matching.entry) entered term.now)) }
+{
+    let count = term.children().len();
     if entered && matches!(&term.kind, Kind::Items(_)) {
-        return true;
+        return Vec::from_elem(alloc, true, count);
     }
-    match matching {
-        Some(rule) => (rule.root || entered) && does_enter(rule, n),
-        None => false,
-    }
+    let mut marks = Vec::from_elem(alloc, false, count)?;
+    mark_rule(matching, entered, &mut marks);
+    Ok(marks)
 }

@@ -1,0 +1,8 @@
+use Rattle.std.proofs.Common.{take}
+use Rattle.std.specs.List.{list_any}
+use Rattle.flow_syntax.specs.Control.{enters_argument}
+use Rattle.flow_links.specs.Marks.{Marks}
+use Rattle.flow_links.proofs.rules.mark_chains.Given as goal
+
+abbrev pub invariant-loop-chain : goal.invariant-loop-chain
+invariant-loop-chain l = Marks l.fn.marks.items l.marks.items (λ n. list_any (λ chain. list_any (λ it. enters_argument l.rule n it.kind) chain.items) (take l.chain-index l.chains))
