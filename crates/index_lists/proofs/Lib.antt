@@ -1,1 +1,5 @@
+pub mod EdgeLemmas
+pub mod GroupLemmas
 pub mod QueueLemmas
+pub mod RecordLemmas
+pub mod TraceLemmas

@@ -1,46 +1,73 @@
 -- What an item that is put in or taken out does to a queue and its marks.
-use Rattle.std.proofs.Common.{◌≡◌, ◌≢◌, zero, suc, ℕ, ◌-◌, ◌<◌, ◌≤◌, Bool, true, false, not, ◌||◌, List, [], ◌∷◌, ◌++◌, length, refl, sym, ap, ◌∙◌, arith, inl, inr, length-append}
-use Rattle.std.specs.Prelude.{nat_eq, slice_index_or, slice_set, remove}
+use Rattle.std.proofs.Common.{◌≡◌, ◌≢◌, zero, suc, ℕ, ◌+◌, ◌-◌, ◌<◌, ◌≤◌, Bool, true, false, cond, not, ◌||◌, List, [], ◌∷◌, ◌++◌, length, refl, sym, ap, ◌∙◌, arith, inl, inr, length-append}
+use Rattle.std.specs.Prelude.{nat_eq, slice_index_or, slice_set}
 use Rattle.std.specs.List.{AllClonesOf}
 use Rattle.std.proofs.lemmas.List.{get_or-set_same, get_or-set_other, get_or_past, get_or-append_right, get_or_append_left, length-set}
-use Rattle.std.proofs.lemmas.Bool.{both_ways, cases_Bool, cases_lt, cases_eq, eq-eqb, ne_eqb, true≢false, not_from_false, false_from_ne_true}
-use Rattle.list_theory.specs.Lists.{has, without}
-use Rattle.list_theory.proofs.ListLemmas.{has-append_one, has-filter_from, has-without, distinct-append_one, distinct-without}
+use Rattle.std.proofs.lemmas.Bool.{both_ways, cases_Bool, cases_lt, cases_eq, eq-eqb, eqb-true, ne_eqb, true≢false, not_from_false, false_from_ne_true}
+use Rattle.list_theory.specs.Lists.{has, without, distinct}
+use Rattle.list_theory.proofs.ListLemmas.{distinct_parts, has-append_one, has-filter_from, has-without, distinct-append_one, distinct-without, without_absent}
 use Rattle.list_theory.proofs.NumberLemmas.{numbers_exact, length_distinct_below}
+use Rattle.linked_lists.specs.Chains.{Lists, list_in, with_list}
+use Rattle.index_lists.specs.Records.{all_in}
 use Rattle.index_lists.specs.Queues.{IsQueue}
+use Rattle.index_lists.proofs.RecordLemmas.{list_in_same, there_is}
 
 -- a mark that is set is one of an allowed item
 marked_allowed : (marks : List Bool) (x : ℕ) → slice_index_or marks x false ≡ true → x < length marks
 marked_allowed marks x h = elim (cases_lt x (length marks)) [ inl lt ↦ lt | inr le ↦ absurd (true≢false (sym h ∙ get_or_past marks x false le)) ]
 
-pub all_allowed : (items : List ℕ) (marks : List Bool) (m x : ℕ) → IsQueue items marks m → has nat_eq items x ≡ true → x < length marks
-all_allowed items marks m x q h = marked_allowed marks x (q.marked x ∙ h)
+pub all_allowed : (chain : Lists) (marks : List Bool) (len x : ℕ) → IsQueue chain marks len → has nat_eq (all_in chain) x ≡ true → x < length marks
+all_allowed chain marks len x q h = marked_allowed marks x (q.marked x ∙ h)
 
-pub absent : (items : List ℕ) (marks : List Bool) (m x : ℕ) → IsQueue items marks m → slice_index_or marks x false ≡ false → has nat_eq items x ≡ false
-absent items marks m x q h = sym (q.marked x) ∙ h
+pub absent : (chain : Lists) (marks : List Bool) (len x : ℕ) → IsQueue chain marks len → slice_index_or marks x false ≡ false → has nat_eq (all_in chain) x ≡ false
+absent chain marks len x q h = sym (q.marked x) ∙ h
 
 or_false : (b : Bool) → (b || false) ≡ b
 or_false true = refl
 or_false false = refl
 
+-- there are no more items than are allowed
+pub few_items : (chain : Lists) (marks : List Bool) (len : ℕ) → IsQueue chain marks len → length (all_in chain) ≤ length marks
+few_items chain marks len q = length_distinct_below (all_in chain) (length marks) q.no_repeats (λ x w. all_allowed chain marks len x q w)
+
+-- an item that isn't there is in no list
+pub absent_all : (chain : Lists) (marks : List Bool) (len x k : ℕ) → IsQueue chain marks len → has nat_eq (all_in chain) x ≡ false → has nat_eq (list_in chain k) x ≡ false
+absent_all chain marks len x k q h =
+    elim (cases_eq k 0) [
+      | inl same ↦ rw same h
+      | inr other ↦ let few = q.one in ap (λ xs. has nat_eq xs x) (get_or_past chain.lists k [] (omega (arith, few, other)))
+    ]
+
+-- there is a list where an item is allowed
+pub listed_is : (chain : Lists) (marks : List Bool) (len x : ℕ) → IsQueue chain marks len → x < length marks → 0 < length chain.lists
+listed_is chain marks len x q lt = let room : length marks ≤ chain.items = q.room in q.listed (omega (arith, room, lt))
+
 -- the queue with an item that wasn't there
-pub IsQueue-push : (items : List ℕ) (marks : List Bool) (m m' x : ℕ) → IsQueue items marks m → x < length marks → has nat_eq items x ≡ false → m ≤ m' → IsQueue (items ++ x ∷ []) (slice_set marks x true) m'
-IsQueue-push items marks m m' x q lt h le = record {
-  no_repeats = distinct-append_one nat_eq numbers_exact items x q.no_repeats h;
-  marked = λ y. elim (cases_eq y x) [
-    | inl same ↦ rw same (get_or-set_same marks x true false lt ∙ sym (has-append_one nat_eq numbers_exact items x x ∙ ap (λ b. b || nat_eq x x) h ∙ eq-eqb x x refl))
-    | inr other ↦ get_or-set_other marks x y true false other ∙ q.marked y ∙ sym (has-append_one nat_eq numbers_exact items x y ∙ ap (λ b. has nat_eq items y || b) (ne_eqb x y (λ e. other (sym e))) ∙ or_false (has nat_eq items y))
-  ];
-  room = let r : length marks ≤ m = q.room in omega (arith, length-set marks x true);
-}
+pub IsQueue-push : (chain chain' : Lists) (marks : List Bool) (len x : ℕ) → IsQueue chain marks len → x < length marks → has nat_eq (all_in chain) x ≡ false → chain' ≡ with_list chain 0 (all_in chain ++ x ∷ []) → IsQueue chain' (slice_set marks x true) (len + 1)
+IsQueue-push chain chain' marks len x q lt h e =
+    let some : 0 < length chain.lists = listed_is chain marks len x q lt in
+    let all : all_in (with_list chain 0 (all_in chain ++ x ∷ [])) ≡ all_in chain ++ x ∷ [] = list_in_same chain 0 (all_in chain ++ x ∷ []) some in
+    let room = q.room in
+    let one = q.one in
+    let counted = q.counted in
+    rw e (record {
+      no_repeats = ap (distinct nat_eq) all ∙ distinct-append_one nat_eq numbers_exact (all_in chain) x q.no_repeats h;
+      marked = λ y. (elim (cases_eq y x) [
+        | inl same ↦ rw same (get_or-set_same marks x true false lt ∙ sym (has-append_one nat_eq numbers_exact (all_in chain) x x ∙ ap (λ b. b || nat_eq x x) h ∙ eq-eqb x x refl))
+        | inr other ↦ get_or-set_other marks x y true false other ∙ q.marked y ∙ sym (has-append_one nat_eq numbers_exact (all_in chain) x y ∙ ap (λ b. has nat_eq (all_in chain) y || b) (ne_eqb x y (λ e. other (sym e))) ∙ or_false (has nat_eq (all_in chain) y))
+      ]) ∙ ap (λ xs. has nat_eq xs y) (sym all);
+      counted = omega (arith, counted, ap length all, length-append (all_in chain) (x ∷ []));
+      room = omega (arith, room, length-set marks x true);
+      listed = λ w. omega (arith, some, length-set chain.lists 0 (all_in chain ++ x ∷ []));
+      one = omega (arith, one, length-set chain.lists 0 (all_in chain ++ x ∷ []));
+    })
 
 -- there is room for an item that is allowed and not there
-pub room_for : (items : List ℕ) (marks : List Bool) (m x : ℕ) → IsQueue items marks m → x < length marks → has nat_eq items x ≡ false → length items < m
-room_for items marks m x q lt h =
-    let p : IsQueue (items ++ x ∷ []) (slice_set marks x true) m = IsQueue-push items marks m m x q lt h (omega arith) in
-    let few : length (items ++ x ∷ []) ≤ length (slice_set marks x true) = length_distinct_below (items ++ x ∷ []) (length (slice_set marks x true)) p.no_repeats (λ y w. all_allowed (items ++ x ∷ []) (slice_set marks x true) m y p w) in
-    let r : length marks ≤ m = q.room in
-    omega (arith, length-append items (x ∷ []), length-set marks x true)
+pub room_for : (chain : Lists) (marks : List Bool) (len x : ℕ) → IsQueue chain marks len → x < length marks → has nat_eq (all_in chain) x ≡ false → length (all_in chain) < length marks
+room_for chain marks len x q lt h =
+    let p : IsQueue (with_list chain 0 (all_in chain ++ x ∷ [])) (slice_set marks x true) (len + 1) = IsQueue-push chain (with_list chain 0 (all_in chain ++ x ∷ [])) marks len x q lt h refl in
+    let all : all_in (with_list chain 0 (all_in chain ++ x ∷ [])) ≡ all_in chain ++ x ∷ [] = list_in_same chain 0 (all_in chain ++ x ∷ []) (listed_is chain marks len x q lt) in
+    omega (arith, few_items _ _ _ p, ap length all, length-append (all_in chain) (x ∷ []), length-set marks x true)
 
 has-without_itself : (items : List ℕ) (x : ℕ) → has nat_eq (without nat_eq items x) x ≡ false
 has-without_itself items x = false_from_ne_true (has nat_eq (without nat_eq items x) x) (λ w. both_ways (nat_eq x x) (has-without nat_eq numbers_exact items x x w).1 (eq-eqb x x refl))
@@ -51,16 +78,53 @@ has-without_other items x y other = elim (cases_Bool (has nat_eq items y)) [
   | inr n ↦ n ∙ sym (false_from_ne_true (has nat_eq (without nat_eq items x) y) (λ w. both_ways (has nat_eq items y) n (has-without nat_eq numbers_exact items x y w).0))
 ]
 
+-- an item less
+length-without_one : (xs : List ℕ) (x : ℕ) → distinct nat_eq xs ≡ true → has nat_eq xs x ≡ true → length (without nat_eq xs x) + 1 ≡ length xs
+length-without_one [] x d h = absurd (true≢false (sym h))
+length-without_one (y ∷ ys) x d h =
+    let parts : (has nat_eq ys y ≡ false) × (distinct nat_eq ys ≡ true) = distinct_parts nat_eq numbers_exact y ys d in
+    elim (cases_Bool (nat_eq y x)) [
+      | inl e ↦
+          let same : y ≡ x = eqb-true y x e in
+          let gone : without nat_eq ys x ≡ ys = without_absent nat_eq numbers_exact ys x (rw (← same) parts.0) in
+          ap (λ b. length (cond (not b) (y ∷ without nat_eq ys x) (without nat_eq ys x)) + 1) e ∙ omega (arith, ap length gone)
+      | inr e ↦
+          let rest : length (without nat_eq ys x) + 1 ≡ length ys = length-without_one ys x parts.1 (sym (ap (λ b. b || has nat_eq ys x) e) ∙ h) in
+          ap (λ b. length (cond (not b) (y ∷ without nat_eq ys x) (without nat_eq ys x)) + 1) e ∙ omega (arith, rest)
+    ]
+
 -- the queue without an item that was there
-pub IsQueue-without : (items : List ℕ) (marks : List Bool) (m m' x : ℕ) → IsQueue items marks m → has nat_eq items x ≡ true → m' ≡ m → IsQueue (without nat_eq items x) (slice_set marks x false) m'
-IsQueue-without items marks m m' x q h e = record {
-  no_repeats = distinct-without nat_eq numbers_exact items x q.no_repeats;
-  marked = λ y. elim (cases_eq y x) [
-    | inl same ↦ rw same (get_or-set_same marks x false false (all_allowed items marks m x q h) ∙ sym (has-without_itself items x))
-    | inr other ↦ get_or-set_other marks x y false false other ∙ q.marked y ∙ has-without_other items x y other
-  ];
-  room = let r : length marks ≤ m = q.room in omega (arith, length-set marks x false);
-}
+pub IsQueue-without : (chain chain' : Lists) (marks : List Bool) (len x : ℕ) → IsQueue chain marks len → has nat_eq (all_in chain) x ≡ true → chain' ≡ with_list chain 0 (without nat_eq (all_in chain) x) → IsQueue chain' (slice_set marks x false) (len - 1)
+IsQueue-without chain chain' marks len x q h e =
+    let some : 0 < length chain.lists = there_is chain 0 x h in
+    let all : all_in (with_list chain 0 (without nat_eq (all_in chain) x)) ≡ without nat_eq (all_in chain) x = list_in_same chain 0 (without nat_eq (all_in chain) x) some in
+    let room = q.room in
+    let one = q.one in
+    let counted = q.counted in
+    rw e (record {
+      no_repeats = ap (distinct nat_eq) all ∙ distinct-without nat_eq numbers_exact (all_in chain) x q.no_repeats;
+      marked = λ y. (elim (cases_eq y x) [
+        | inl same ↦ rw same (get_or-set_same marks x false false (all_allowed chain marks len x q h) ∙ sym (has-without_itself (all_in chain) x))
+        | inr other ↦ get_or-set_other marks x y false false other ∙ q.marked y ∙ has-without_other (all_in chain) x y other
+      ]) ∙ ap (λ xs. has nat_eq xs y) (sym all);
+      counted = omega (arith, counted, ap length all, length-without_one (all_in chain) x q.no_repeats h);
+      room = omega (arith, room, length-set marks x false);
+      listed = λ w. omega (arith, some, length-set chain.lists 0 (without nat_eq (all_in chain) x));
+      one = omega (arith, one, length-set chain.lists 0 (without nat_eq (all_in chain) x));
+    })
+
+-- the queue with room for more
+pub IsQueue-room : (chain chain' : Lists) (marks : List Bool) (len : ℕ) → all_in chain' ≡ all_in chain → (0 < chain'.items → 0 < length chain'.lists) → length chain'.lists ≤ 1 → chain.items ≤ chain'.items → IsQueue chain marks len → IsQueue chain' marks len
+IsQueue-room chain chain' marks len all listed one more q =
+    let room = q.room in
+    record {
+      no_repeats = ap (distinct nat_eq) all ∙ q.no_repeats;
+      marked = λ x. q.marked x ∙ ap (λ xs. has nat_eq xs x) (sym all);
+      counted = q.counted ∙ ap length (sym all);
+      room = omega (arith, room, more);
+      listed = listed;
+      one = one;
+    }
 
 -- marks that say no, as clones of `false`
 get_or-clones : (clones : Bool → Bool → Type 0) (ys : List Bool) (x : ℕ) → ((y : Bool) → clones false y → y ≡ false) → AllClonesOf clones false ys → slice_index_or ys x false ≡ false
@@ -69,23 +133,15 @@ get_or-clones clones (y ∷ ys) zero equal all = elim all.0 [ inl e ↦ e | inr 
 get_or-clones clones (y ∷ ys) (suc x) equal all = get_or-clones clones ys x equal all.1
 
 -- the queue with more marks, which say no
-pub IsQueue-grow : (clones : Bool → Bool → Type 0) (items : List ℕ) (marks ys marks' : List Bool) (m m' : ℕ) → ((y : Bool) → clones false y → y ≡ false) → AllClonesOf clones false ys → marks' ≡ marks ++ ys → length marks' ≤ m' → IsQueue items marks m → IsQueue items marks' m'
-IsQueue-grow clones items marks ys marks' m m' equal all e le q = record {
+pub IsQueue-grow : (clones : Bool → Bool → Type 0) (chain : Lists) (marks ys marks' : List Bool) (len : ℕ) → ((y : Bool) → clones false y → y ≡ false) → AllClonesOf clones false ys → marks' ≡ marks ++ ys → length marks' ≤ chain.items → IsQueue chain marks len → IsQueue chain marks' len
+IsQueue-grow clones chain marks ys marks' len equal all e le q = record {
   no_repeats = q.no_repeats;
   marked = λ x. elim (cases_lt x (length marks)) [
     | inl lt ↦ rw e (get_or_append_left marks ys false x lt ∙ q.marked x)
     | inr past ↦ rw e (get_or-append_right marks ys (length marks) x false refl past ∙ get_or-clones clones ys (x - length marks) equal all ∙ sym (sym (q.marked x) ∙ get_or_past marks x false past))
   ];
+  counted = q.counted;
   room = le;
+  listed = q.listed;
+  one = q.one;
 }
-
--- the queue with more room
-pub IsQueue-room : (items : List ℕ) (marks : List Bool) (m m' : ℕ) → m ≤ m' → IsQueue items marks m → IsQueue items marks m'
-IsQueue-room items marks m m' le q = record { no_repeats = q.no_repeats; marked = q.marked; room = let r : length marks ≤ m = q.room in omega arith }
-
--- there are no more items than are allowed
-pub few_items : (items : List ℕ) (marks : List Bool) (m : ℕ) → IsQueue items marks m → length items ≤ length marks
-few_items items marks m q = length_distinct_below items (length marks) q.no_repeats (λ x w. all_allowed items marks m x q w)
-
-pub IsQueue-remove : (items : List ℕ) (marks : List Bool) (m m' place x : ℕ) → IsQueue items marks m → has nat_eq items x ≡ true → remove items place ≡ without nat_eq items x → m' ≡ m → IsQueue (remove items place) (slice_set marks x false) m'
-IsQueue-remove items marks m m' place x q h same e = rw same (IsQueue-without items marks m m' x q h e)

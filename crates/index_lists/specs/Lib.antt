@@ -1,2 +1,4 @@
+pub mod Edges
 pub mod Queues
+pub mod Records
 pub mod Traces

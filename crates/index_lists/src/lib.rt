@@ -4,8 +4,11 @@
 //! in the length of the list.
 #![tactic(auto)]
 
+mod edges;
 mod queue;
+mod records;
 mod trace;
 
+pub use edges::{EdgeIter, EdgeLists};
 pub use queue::WorkQueue;
 pub use trace::{TraceIter, TraceList};

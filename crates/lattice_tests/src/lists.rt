@@ -1,5 +1,5 @@
-//! The lists of a worklist solver.
-use index_lists::{TraceList, WorkQueue};
+//! The lists of a worklist solver and of a graph.
+use index_lists::{EdgeLists, TraceList, WorkQueue};
 use std::alloc::{AllocError, Global};
 use std::test::Fail;
 
@@ -42,6 +42,30 @@ fn a_trace_keeps_the_order_of_what_is_left(rt: HostRuntime) -> Result<(), Fail> 
     assert_eq!(rt;
         left_in_trace(rt.alloc())?.as_slice(),
         [(6, 1), (7, 3)].as_slice()
+    );
+    Ok(())
+}
+
+/// The edges to node 1, once those of node 2 are taken out.
+fn left_at_node(alloc: Global) -> Result<Vec<(usize, usize, usize)>, AllocError> {
+    let mut edges = EdgeLists::new(alloc);
+    for (from, to) in [(0, 1), (2, 1), (1, 1), (1, 0)] {
+        edges.reserve(1, 3)?;
+        edges.add(from, to);
+    }
+    edges.remove_node(2);
+    let mut left = Vec::new(alloc);
+    for edge in edges.incoming(1) {
+        left.push(edge)?;
+    }
+    Ok(left)
+}
+
+#[test]
+fn the_edges_of_a_node_go_with_it(rt: HostRuntime) -> Result<(), Fail> {
+    assert_eq!(rt;
+        left_at_node(rt.alloc())?.as_slice(),
+        [(0, 0, 1), (2, 1, 1)].as_slice()
     );
     Ok(())
 }
