@@ -42,9 +42,6 @@ in_flat f (x ∷ xs) y h = elim (Contains-append_cases (f x) (flat_map f xs) y h
   | inr later ↦ (let rest = in_flat f xs y later in (rest.0, Contains-append_right (x ∷ []) xs rest.0 rest.1, rest.2))
 ]
 
-none_is_some : {X : Type 0} (o : Option X) → o ≡ None → is_some o ≡ false
-none_is_some o e = ap is_some e
-
 module _ (spec : Spec) (names : Names) (are : AreNames spec names) where
   -- WHAT ISN'T KNOWN ISN'T DECLARED
 

@@ -1,5 +1,5 @@
 -- The earliest of the faults that were met.
-use Rattle.std.specs.Prelude.{◌≡◌, ℕ, ◌<◌, ◌≤◌, ◌⊎◌, Bool, ◌&&◌, ◌||◌, ◌==◌, nat_lt, if◌then◌else◌, List, [], ◌∷◌, Option, None, Some, slice_get, IsSomeAnd}
+use Rattle.std.specs.Prelude.{◌≡◌, ℕ, ◌<◌, ◌≤◌, ◌⊎◌, Bool, ◌&&◌, ◌||◌, ◌==◌, nat_lt, if◌then◌else◌, List, Option, None, Some, slice_get, IsSomeAnd}
 use Rattle.flow_syntax.specs.declared.fault.SpecFaultKind.{SpecFaultKind}
 use Rattle.flow_syntax.specs.declared.fault.SpecFaultKind.TheVariants as kinds
 
@@ -72,8 +72,3 @@ is_before a b = nat_lt a.0 b.0 || (a.0 == b.0 && nat_lt (kind_rank a.1) (kind_ra
 abbrev pub earlier_of : Option (ℕ × SpecFaultKind) → ℕ × SpecFaultKind → Option (ℕ × SpecFaultKind)
 earlier_of None fault = Some fault
 earlier_of (Some found) fault = if is_before fault found then Some fault else Some found
-
--- the earliest one of what was found and a list of faults
-abbrev pub earliest_of : Option (ℕ × SpecFaultKind) → List (ℕ × SpecFaultKind) → Option (ℕ × SpecFaultKind)
-earliest_of found [] = found
-earliest_of found (fault ∷ faults) = earliest_of (earlier_of found fault) faults

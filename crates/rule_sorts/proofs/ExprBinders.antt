@@ -16,7 +16,7 @@ use Rattle.flow_syntax.specs.declared.expr.ExprKind.TheOpen.{ExprKind-F}
 use Rattle.flow_syntax.proofs.ExprLayers.{layer_of_and, layer_of_arith, layer_of_bind, layer_of_both, layer_of_call, layer_of_choose, layer_of_compare, layer_of_if, layer_of_look, layer_of_map_of, layer_of_member, layer_of_or, layer_of_set2, layer_of_set_of, layer_of_update}
 use Rattle.flow_syntax.specs.Binders.{Binder, binder, binder_layer, binders_in, in_turn}
 use Rattle.flow_syntax.specs.Expressions.{ExprLayer, expr_layer}
-use Rattle.rule_sorts.specs.Tables.{known_binder, names_at, names_in_turn, names_of_map, names_of_map_layer}
+use Rattle.rule_sorts.specs.Tables.{known_binder, names_at, names_in_turn, names_of_choice, names_of_choice_layer, names_of_map, names_of_map_layer}
 use Rattle.rule_sorts.proofs.PatternLayers.{flat_again}
 
 -- a layer with the names that its parts bind
@@ -131,9 +131,8 @@ names_bind e x a b p q is f g =
     ap (map known_binder) (binders_where e (ExprKind-F.Bind x a b) (ap out-ExprKind is ∙ layer_of_bind x a b) ∙ ap (λ r. binder x (out-Expr e).place ∷ binders_in r ++ binders_in b) (sym f) ∙ ap (λ r. binder x (out-Expr e).place ∷ binders_in p ++ binders_in r) (sym g))
     ∙ two (binder x (out-Expr e).place ∷ binders_in p) (binders_in q)
 
-names_of_choice : (a : Expr) (x : List ℕ) (s : Expr) (c : Option Expr) (at : ℕ)
-    → map known_binder (binder_layer (bindings_of (ExprKind-F.Choose a x s c)) at) ≡ names_in a ++ ((binder x at, false) ∷ []) ++ names_in s ++ map known_binder (option_map_or binders_in c [])
-names_of_choice a x s c at =
+known_of_choice : (a : Expr) (x : List ℕ) (s : Expr) (c : Option Expr) (at : ℕ) → map known_binder (binder_layer (bindings_of (ExprKind-F.Choose a x s c)) at) ≡ names_of_choice_layer (ExprKind-F.Choose a x s c) at
+known_of_choice a x s c at =
     ap (map known_binder) (any c) ∙ three (binders_in a) (binder x at ∷ binders_in s) (option_map_or binders_in c [])
     ∙ ap (λ ys. ys ++ map known_binder (option_map_or binders_in c [])) (sym (append_assoc (names_in a) ((binder x at, false) ∷ []) (names_in s)))
   where
@@ -141,31 +140,39 @@ names_of_choice a x s c at =
     any None = refl
     any (Some d) = refl
 
-names_choose : (e a : Expr) (x : List ℕ) (s p q : Expr) (c d : Option Expr) → (out-Expr e).kind ≡ exprs.Choose a x s c → c ≡ d → p ≡ a → q ≡ s
-    → names_in e ≡ names_in p ++ ((binder x (out-Expr e).place, false) ∷ []) ++ names_in q ++ map known_binder (option_map_or binders_in d [])
-names_choose e a x s p q c d is same f g =
-    ap (map known_binder) (binders_where e (ExprKind-F.Choose a x s c) (ap out-ExprKind is ∙ layer_of_choose a x s c)) ∙ names_of_choice a x s c (out-Expr e).place
+choose_layer : (e a : Expr) (x : List ℕ) (s : Expr) (c : Option Expr) → (out-Expr e).kind ≡ exprs.Choose a x s c → expr_layer e ≡ ExprKind-F.Choose a x s c
+choose_layer e a x s c is = ap out-ExprKind is ∙ layer_of_choose a x s c
+
+-- what a choice of elements binds
+pub names_choose : (e a : Expr) (x : List ℕ) (s : Expr) (c : Option Expr) → (out-Expr e).kind ≡ exprs.Choose a x s c → names_in e ≡ names_of_choice e
+names_choose e a x s c is =
+    ap (map known_binder) (binders_where e (ExprKind-F.Choose a x s c) (choose_layer e a x s c is)) ∙ known_of_choice a x s c (out-Expr e).place
+    ∙ ap (λ y. names_of_choice_layer y (out-Expr e).place) (sym (choose_layer e a x s c is))
+
+parts_of_choice : (e a : Expr) (x : List ℕ) (s p q : Expr) (c d : Option Expr) → (out-Expr e).kind ≡ exprs.Choose a x s c → c ≡ d → p ≡ a → q ≡ s
+    → names_of_choice e ≡ names_in p ++ ((binder x (out-Expr e).place, false) ∷ []) ++ names_in q ++ map known_binder (option_map_or binders_in d [])
+parts_of_choice e a x s p q c d is same f g =
+    ap (λ y. names_of_choice_layer y (out-Expr e).place) (choose_layer e a x s c is)
     ∙ ap (λ o. names_in a ++ ((binder x (out-Expr e).place, false) ∷ []) ++ names_in s ++ map known_binder (option_map_or binders_in o [])) same
     ∙ ap (λ r. names_in r ++ ((binder x (out-Expr e).place, false) ∷ []) ++ names_in s ++ map known_binder (option_map_or binders_in d [])) (sym f)
     ∙ ap (λ r. names_in p ++ ((binder x (out-Expr e).place, false) ∷ []) ++ names_in r ++ map known_binder (option_map_or binders_in d [])) (sym g)
 
-pub names_choose_none : (e a : Expr) (x : List ℕ) (s p q : Expr) (c : Option Expr) → (out-Expr e).kind ≡ exprs.Choose a x s c → c ≡ None → p ≡ a → q ≡ s
-    → names_in e ≡ names_in p ++ ((binder x (out-Expr e).place, false) ∷ []) ++ names_in q
-names_choose_none e a x s p q c is none f g = names_choose e a x s p q c None is none f g ∙ append-nil (names_in p ++ ((binder x (out-Expr e).place, false) ∷ []) ++ names_in q)
+pub choice_without : (e a : Expr) (x : List ℕ) (s p q : Expr) (c : Option Expr) → (out-Expr e).kind ≡ exprs.Choose a x s c → c ≡ None → p ≡ a → q ≡ s
+    → names_of_choice e ≡ names_in p ++ ((binder x (out-Expr e).place, false) ∷ []) ++ names_in q
+choice_without e a x s p q c is none f g = parts_of_choice e a x s p q c None is none f g ∙ append-nil (names_in p ++ ((binder x (out-Expr e).place, false) ∷ []) ++ names_in q)
 
-pub names_choose_some : (e a : Expr) (x : List ℕ) (s d p q r : Expr) (c : Option Expr) → (out-Expr e).kind ≡ exprs.Choose a x s c → c ≡ Some d → p ≡ a → q ≡ s → r ≡ d
-    → names_in e ≡ names_in p ++ ((binder x (out-Expr e).place, false) ∷ []) ++ names_in q ++ names_in r
-names_choose_some e a x s d p q r c is some f g h =
-    names_choose e a x s p q c (Some d) is some f g ∙ ap (λ t. names_in p ++ ((binder x (out-Expr e).place, false) ∷ []) ++ names_in q ++ names_in t) (sym h)
+pub choice_with : (e a : Expr) (x : List ℕ) (s d p q r : Expr) (c : Option Expr) → (out-Expr e).kind ≡ exprs.Choose a x s c → c ≡ Some d → p ≡ a → q ≡ s → r ≡ d
+    → names_of_choice e ≡ names_in p ++ ((binder x (out-Expr e).place, false) ∷ []) ++ names_in q ++ names_in r
+choice_with e a x s d p q r c is some f g h =
+    parts_of_choice e a x s p q c (Some d) is some f g ∙ ap (λ t. names_in p ++ ((binder x (out-Expr e).place, false) ∷ []) ++ names_in q ++ names_in t) (sym h)
 
 names_of_list : (e : Expr) (parts ps : List Expr) → binders_in e ≡ flat_map (λ bs. bs) (map binders_in parts) → ps ≡ parts → names_in e ≡ map known_binder (flat_map binders_in ps)
 names_of_list e parts ps is same = ap (map known_binder) (is ∙ flat_again binders_in parts ∙ ap (flat_map binders_in) (sym same))
 
-pub names_call : (e : Expr) (f : List ℕ) (parts ps : List Expr) → (out-Expr e).kind ≡ exprs.Call f parts → ps ≡ parts → names_in e ≡ map known_binder (flat_map binders_in ps)
-names_call e f parts ps is = names_of_list e parts ps (binders_where e (ExprKind-F.Call f parts) (ap out-ExprKind is ∙ layer_of_call f parts))
-
-pub names_set_of : (e : Expr) (parts ps : List Expr) → (out-Expr e).kind ≡ exprs.SetOf parts → ps ≡ parts → names_in e ≡ map known_binder (flat_map binders_in ps)
-names_set_of e parts ps is = names_of_list e parts ps (binders_where e (ExprKind-F.SetOf parts) (ap out-ExprKind is ∙ layer_of_set_of parts))
+-- what the arguments of a call or the elements of a set bind
+pub names_list : (e : Expr) (parts ps : List Expr) → ((f : List ℕ) × ((out-Expr e).kind ≡ exprs.Call f parts)) ⊎ ((out-Expr e).kind ≡ exprs.SetOf parts) → ps ≡ parts → names_in e ≡ map known_binder (flat_map binders_in ps)
+names_list e parts ps (inl h) = names_of_list e parts ps (binders_where e (ExprKind-F.Call h.0 parts) (ap out-ExprKind h.1 ∙ layer_of_call h.0 parts))
+names_list e parts ps (inr h) = names_of_list e parts ps (binders_where e (ExprKind-F.SetOf parts) (ap out-ExprKind h ∙ layer_of_set_of parts))
 
 map_layer : (e : Expr) (ks vs : List Expr) → (out-Expr e).kind ≡ exprs.MapOf ks vs → expr_layer e ≡ ExprKind-F.MapOf ks vs
 map_layer e ks vs is = ap out-ExprKind is ∙ layer_of_map_of ks vs
@@ -180,23 +187,19 @@ names_map_of e ks vs is = ap (map known_binder) (binders_where e (ExprKind-F.Map
 names_of_two : (e a b p q : Expr) → binders_in e ≡ binders_in a ++ binders_in b → p ≡ a → q ≡ b → names_in e ≡ names_in p ++ names_in q
 names_of_two e a b p q is f g = ap (map known_binder) (is ∙ ap (λ r. binders_in r ++ binders_in b) (sym f) ∙ ap (λ r. binders_in p ++ binders_in r) (sym g)) ∙ two (binders_in p) (binders_in q)
 
+-- what the parts of a form of two parts bind
 pub names_two : (e a b p q : Expr)
-    → ((out-Expr e).kind ≡ exprs.Both a b) ⊎ (((out-Expr e).kind ≡ exprs.Look a b) ⊎ (((out-Expr e).kind ≡ exprs.Member a b) ⊎ (((out-Expr e).kind ≡ exprs.And a b) ⊎ ((out-Expr e).kind ≡ exprs.Or a b))))
+    → ((out-Expr e).kind ≡ exprs.Both a b) ⊎ (((out-Expr e).kind ≡ exprs.Look a b) ⊎ (((o : SetOp) × ((out-Expr e).kind ≡ exprs.Set2 o a b)) ⊎ (((o : ArithOp) × ((out-Expr e).kind ≡ exprs.Arith o a b))
+    ⊎ (((o : CompareOp) × ((out-Expr e).kind ≡ exprs.Compare o a b)) ⊎ (((out-Expr e).kind ≡ exprs.Member a b) ⊎ (((out-Expr e).kind ≡ exprs.And a b) ⊎ ((out-Expr e).kind ≡ exprs.Or a b)))))))
     → p ≡ a → q ≡ b → names_in e ≡ names_in p ++ names_in q
 names_two e a b p q (inl is) = names_of_two e a b p q (binders_where e (ExprKind-F.Both a b) (ap out-ExprKind is ∙ layer_of_both a b))
 names_two e a b p q (inr (inl is)) = names_of_two e a b p q (binders_where e (ExprKind-F.Look a b) (ap out-ExprKind is ∙ layer_of_look a b))
-names_two e a b p q (inr (inr (inl is))) = names_of_two e a b p q (binders_where e (ExprKind-F.Member a b) (ap out-ExprKind is ∙ layer_of_member a b))
-names_two e a b p q (inr (inr (inr (inl is)))) = names_of_two e a b p q (binders_where e (ExprKind-F.And a b) (ap out-ExprKind is ∙ layer_of_and a b))
-names_two e a b p q (inr (inr (inr (inr is)))) = names_of_two e a b p q (binders_where e (ExprKind-F.Or a b) (ap out-ExprKind is ∙ layer_of_or a b))
-
-pub names_set2 : (e : Expr) (o : SetOp) (a b p q : Expr) → (out-Expr e).kind ≡ exprs.Set2 o a b → p ≡ a → q ≡ b → names_in e ≡ names_in p ++ names_in q
-names_set2 e o a b p q is = names_of_two e a b p q (binders_where e (ExprKind-F.Set2 o a b) (ap out-ExprKind is ∙ layer_of_set2 o a b))
-
-pub names_arith : (e : Expr) (o : ArithOp) (a b p q : Expr) → (out-Expr e).kind ≡ exprs.Arith o a b → p ≡ a → q ≡ b → names_in e ≡ names_in p ++ names_in q
-names_arith e o a b p q is = names_of_two e a b p q (binders_where e (ExprKind-F.Arith o a b) (ap out-ExprKind is ∙ layer_of_arith o a b))
-
-pub names_compare : (e : Expr) (o : CompareOp) (a b p q : Expr) → (out-Expr e).kind ≡ exprs.Compare o a b → p ≡ a → q ≡ b → names_in e ≡ names_in p ++ names_in q
-names_compare e o a b p q is = names_of_two e a b p q (binders_where e (ExprKind-F.Compare o a b) (ap out-ExprKind is ∙ layer_of_compare o a b))
+names_two e a b p q (inr (inr (inl h))) = names_of_two e a b p q (binders_where e (ExprKind-F.Set2 h.0 a b) (ap out-ExprKind h.1 ∙ layer_of_set2 h.0 a b))
+names_two e a b p q (inr (inr (inr (inl h)))) = names_of_two e a b p q (binders_where e (ExprKind-F.Arith h.0 a b) (ap out-ExprKind h.1 ∙ layer_of_arith h.0 a b))
+names_two e a b p q (inr (inr (inr (inr (inl h))))) = names_of_two e a b p q (binders_where e (ExprKind-F.Compare h.0 a b) (ap out-ExprKind h.1 ∙ layer_of_compare h.0 a b))
+names_two e a b p q (inr (inr (inr (inr (inr (inl is)))))) = names_of_two e a b p q (binders_where e (ExprKind-F.Member a b) (ap out-ExprKind is ∙ layer_of_member a b))
+names_two e a b p q (inr (inr (inr (inr (inr (inr (inl is))))))) = names_of_two e a b p q (binders_where e (ExprKind-F.And a b) (ap out-ExprKind is ∙ layer_of_and a b))
+names_two e a b p q (inr (inr (inr (inr (inr (inr (inr is))))))) = names_of_two e a b p q (binders_where e (ExprKind-F.Or a b) (ap out-ExprKind is ∙ layer_of_or a b))
 
 pub names_three : (e a b c p q r : Expr) → ((out-Expr e).kind ≡ exprs.Update a b c) ⊎ ((out-Expr e).kind ≡ exprs.If a b c) → p ≡ a → q ≡ b → r ≡ c
     → names_in e ≡ names_in p ++ names_in q ++ names_in r

@@ -125,43 +125,32 @@ module _ (rule : FlowRule) (head : Head) (right : IsHeadOf rule head) where
   argument_is : (x : List ℕ) → has_name head.arguments x ≡ is_some (argument rule x)
   argument_is x = right.arguments x ∙ sym (is_some-position_from (λ p. is_variable_in x (pattern_layer p)) 0 (arguments rule))
 
+  -- an item that names an argument x in another way than one of those before it
+  found_after : (place : ℕ) (kind : SpecFaultKind) (k : ℕ) (b : Item) (x : List ℕ) (names : ItemKind → Bool) → slice_get (items_of rule) k ≡ Some b
+      → (has_name head.arguments x && list_any (λ i. names i.kind) (take k (items_of rule))) ≡ true → ((a : Item) → names a.kind ≡ true → AreMixed a.kind b.kind x) → IsFault b.place kinds.MixedItem place kind → IsMixedItem rule place kind
+  found_after place kind k b x names at h mixes stands =
+      let both = and_parts (has_name head.arguments x) (list_any (λ i. names i.kind) (take k (items_of rule))) h in
+      let a = any_at (λ i. names i.kind) (take k (items_of rule)) both.1 in
+      let before = among_first (items_of rule) k a.0 a.1 a.2 in
+      record {
+        earlier = a.0;
+        later = k;
+        a = a.1;
+        b = b;
+        x = x;
+        first = before.1;
+        second = at;
+        before = before.0;
+        is_argument = sym (argument_is x) ∙ both.0;
+        mixed = mixes a.1 a.3;
+        stands = stands;
+      }
+
   found : (place : ℕ) (kind : SpecFaultKind) (k : ℕ) (b : Item) (form : ItemKind) → b.kind ≡ form → slice_get (items_of rule) k ≡ Some b
       → is_mixed_with (has_name head.arguments) (λ x. list_any (λ i. is_whole x i.kind) (take k (items_of rule))) (λ x. list_any (λ i. is_single x i.kind) (take k (items_of rule))) form ≡ true
       → IsFault b.place kinds.MixedItem place kind → IsMixedItem rule place kind
-  found place kind k b (item.Whole x) e at h stands =
-      let both = and_parts (has_name head.arguments x) (list_any (λ i. is_single x i.kind) (take k (items_of rule))) h in
-      let a = any_at (λ i. is_single x i.kind) (take k (items_of rule)) both.1 in
-      let before = among_first (items_of rule) k a.0 a.1 a.2 in
-      record {
-        earlier = a.0;
-        later = k;
-        a = a.1;
-        b = b;
-        x = x;
-        first = before.1;
-        second = at;
-        before = before.0;
-        is_argument = sym (argument_is x) ∙ both.0;
-        mixed = inr (single_is x a.1.kind a.3, e);
-        stands = stands;
-      }
-  found place kind k b (item.Single x) e at h stands =
-      let both = and_parts (has_name head.arguments x) (list_any (λ i. is_whole x i.kind) (take k (items_of rule))) h in
-      let a = any_at (λ i. is_whole x i.kind) (take k (items_of rule)) both.1 in
-      let before = among_first (items_of rule) k a.0 a.1 a.2 in
-      record {
-        earlier = a.0;
-        later = k;
-        a = a.1;
-        b = b;
-        x = x;
-        first = before.1;
-        second = at;
-        before = before.0;
-        is_argument = sym (argument_is x) ∙ both.0;
-        mixed = inl (whole_is x a.1.kind a.3, e);
-        stands = stands;
-      }
+  found place kind k b (item.Whole x) e at h stands = found_after place kind k b x (is_single x) at h (λ a is. inr (single_is x a.kind is, e)) stands
+  found place kind k b (item.Single x) e at h stands = found_after place kind k b x (is_whole x) at h (λ a is. inl (whole_is x a.kind is, e)) stands
   found place kind k b item.Entry e at h stands = cc
   found place kind k b item.Exit e at h stands = cc
   found place kind k b item.Start e at h stands = cc

@@ -24,7 +24,7 @@ use Rattle.rule_sorts.specs.Items.{is_misplaced, is_single, is_whole}
 use Rattle.flow_syntax.specs.RuleFaults.{AreMixed, items_of}
 use Rattle.flow_syntax.specs.Matching.{PatternLayer, pattern_layer}
 use Rattle.flow_syntax.specs.RuleFaults.{IsMisapplied, IsMisnamedItem, IsWithin, head_variable, looks_deep, named_by}
-use Rattle.flow_syntax.specs.VariableFaults.{IsLoosePart, IsRebound, binders_of_message}
+use Rattle.flow_syntax.specs.VariableFaults.{IsLoosePart, IsRebound}
 use Rattle.rule_sorts.specs.declared.head.Head.{Head}
 use Rattle.rule_sorts.specs.Tables.{has_name, is_constant_in, is_mixed_with}
 use Rattle.spec_names.specs.declared.names.Names.{Names}
@@ -140,6 +140,3 @@ pub record HasLoosePart (m : Message) (place : ℕ) (kind : SpecFaultKind) : Typ
   pub among : Contains m.parts loose_part
   pub loose : IsLoosePart m loose_part place
   pub stands : kind ≡ kinds.Unbound
-
-abbrev pub IsFaultyMessage : Spec → Message → ℕ → SpecFaultKind → Type 0
-IsFaultyMessage spec m = Either (RebindsIn spec (binders_of_message m)) (HasLoosePart m)

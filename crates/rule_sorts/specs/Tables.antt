@@ -1,10 +1,10 @@
 -- What is known of names: which are in a set, which are bound, and which items name.
-use Rattle.std.specs.Prelude.{◌≡◌, ℕ, Bool, true, false, ◌&&◌, ◌||◌, List, [], Option, find, is_some, bytes_eq, map, slice_get}
+use Rattle.std.specs.Prelude.{◌≡◌, ℕ, Bool, true, false, ◌&&◌, ◌||◌, List, [], ◌∷◌, ◌++◌, Option, find, is_some, bytes_eq, map, slice_get}
 use Rattle.std.specs.Borrow.{Bor}
 use Rattle.std.specs.HashSet.{HashSet}
 use Rattle.std.specs.List.{list_any}
 use Rattle.std.specs.Option.{option_map, option_map_or}
-use Rattle.flow_syntax.specs.declared.expr.Expr.{Expr}
+use Rattle.flow_syntax.specs.declared.expr.Expr.{Expr, out-Expr}
 use Rattle.flow_syntax.specs.declared.rule.FlowRule.{FlowRule}
 use Rattle.flow_syntax.specs.declared.rule.Item.{Item}
 use Rattle.flow_syntax.specs.declared.rule.ItemKind.{ItemKind}
@@ -63,6 +63,15 @@ names_of_map_layer layer = []
 
 abbrev pub names_of_map : Expr → List (Binder × Bool)
 names_of_map e = names_of_map_layer (expr_layer e)
+
+-- of the names of a choice of elements at a place: of the element, its own, those of the set and of the condition
+abbrev pub names_of_choice_layer : ExprLayer → ℕ → List (Binder × Bool)
+names_of_choice_layer (ExprKind-F.Choose element x set condition) at =
+    map known_binder (binders_in element) ++ ((binder x at, false) ∷ []) ++ map known_binder (binders_in set) ++ map known_binder (option_map_or binders_in condition [])
+names_of_choice_layer layer at = []
+
+abbrev pub names_of_choice : Expr → List (Binder × Bool)
+names_of_choice e = names_of_choice_layer (expr_layer e) (out-Expr e).place
 
 -- of the names of the expression with a number, if there is one
 abbrev pub names_at : List Expr → ℕ → List (Binder × Bool)

@@ -2,7 +2,7 @@
 ghost use Rattle.std.specs.Prelude.{◌≡◌, ◌++◌, ◌∷◌, [], OnOk, map};
 ghost use Rattle.std.specs.List.{flat_map};
 ghost use Rattle.flow_syntax.specs.Binders.{binder, binders_in, bound_in};
-ghost use Rattle.rule_sorts.specs.Tables.{known_binder, known_bound, known_by, names_at, names_of_map};
+ghost use Rattle.rule_sorts.specs.Tables.{known_binder, known_bound, known_by, names_at, names_of_choice, names_of_map};
 
 use flow_syntax::{Expr, ExprKind, Pattern, PatternKind};
 use flow_term::Text;
@@ -81,17 +81,11 @@ pub fn push_binders<'a>(e: &'a Expr, out: &mut Vec<Binding<'a>>) -> Result<(), A
     ensures { OnOk result (map known_by out.new.items ≡ map known_by out.old.items ++ map known_binder (binders_in e.now)) }
 {
     match &e.kind {
-        ExprKind::Int(_)
-        | ExprKind::Str(_)
-        | ExprKind::Truth(_)
-        | ExprKind::Bottom
-        | ExprKind::Top
-        | ExprKind::Unreached
-        | ExprKind::Ident(_)
-        | ExprKind::Read(_, _) => {}
-        ExprKind::Call(_, parts) => return push_binders_of_each(parts.as_slice(), out),
-        ExprKind::SetOf(parts) => return push_binders_of_each(parts.as_slice(), out),
+        ExprKind::Call(_, parts) | ExprKind::SetOf(parts) => {
+            return push_binders_of_each(parts.as_slice(), out);
+        }
         ExprKind::MapOf(_, _) => return push_binders_of_map(e, out),
+        ExprKind::Choose(_, _, _, _) => return push_binders_of_choice(e, out),
         ExprKind::MakeFlat(a)
         | ExprKind::Fst(a)
         | ExprKind::Snd(a)
@@ -99,21 +93,12 @@ pub fn push_binders<'a>(e: &'a Expr, out: &mut Vec<Binding<'a>>) -> Result<(), A
         | ExprKind::Not(a) => return push_binders(a.get(), out),
         ExprKind::Both(a, b)
         | ExprKind::Look(a, b)
+        | ExprKind::Set2(_, a, b)
+        | ExprKind::Arith(_, a, b)
+        | ExprKind::Compare(_, a, b)
         | ExprKind::Member(a, b)
         | ExprKind::And(a, b)
         | ExprKind::Or(a, b) => {
-            push_binders(a.get(), out)?;
-            return push_binders(b.get(), out);
-        }
-        ExprKind::Set2(_, a, b) => {
-            push_binders(a.get(), out)?;
-            return push_binders(b.get(), out);
-        }
-        ExprKind::Arith(_, a, b) => {
-            push_binders(a.get(), out)?;
-            return push_binders(b.get(), out);
-        }
-        ExprKind::Compare(_, a, b) => {
             push_binders(a.get(), out)?;
             return push_binders(b.get(), out);
         }
@@ -127,17 +112,27 @@ pub fn push_binders<'a>(e: &'a Expr, out: &mut Vec<Binding<'a>>) -> Result<(), A
             push_binders(a.get(), out)?;
             return push_binders(b.get(), out);
         }
-        ExprKind::Choose(element, name, set, condition) => {
-            push_binders(element.get(), out)?;
-            push_binding(out, name, e.place, false)?;
-            push_binders(set.get(), out)?;
-            match condition {
-                Some(condition) => return push_binders(condition.get(), out),
-                None => return Ok(()),
-            }
-        }
+        _ => {}
     }
     Ok(())
+}
+
+/// Adds the names that a choice of elements binds: those of the element, its own, those of the set and of the condition; of another
+/// expression none.
+#[cycle(binders)]
+fn push_binders_of_choice<'a>(e: &'a Expr, out: &mut Vec<Binding<'a>>) -> Result<(), AllocError>
+    ensures { OnOk result (map known_by out.new.items ≡ map known_by out.old.items ++ names_of_choice e.now) }
+{
+    let ExprKind::Choose(element, name, set, condition) = &e.kind else {
+        return Ok(());
+    };
+    push_binders(element.get(), out)?;
+    push_binding(out, name, e.place, false)?;
+    push_binders(set.get(), out)?;
+    match condition {
+        Some(condition) => return push_binders(condition.get(), out),
+        None => return Ok(()),
+    }
 }
 
 /// Adds the names that the keys and values of a map bind, in turn; of another expression none.

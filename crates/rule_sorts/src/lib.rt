@@ -2,6 +2,7 @@
 #![tactic(auto)]
 
 mod bindings;
+mod binds;
 mod head;
 mod items;
 mod mixed;

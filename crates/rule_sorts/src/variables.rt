@@ -2,16 +2,16 @@
 ghost use Rattle.std.specs.Prelude.{◌≡◌, ◌||◌, ℕ, List as Sequence, IfOk, OnOk, bytes_eq, map};
 ghost use Rattle.std.specs.List.{list_any};
 ghost use Rattle.earliest_fault.specs.Earliest.{Gathers, SomeHas};
-ghost use Rattle.flow_syntax.specs.VariableFaults.{IsFaultyVariable, binders_of_head, binders_of_message, binders_of_rule};
-ghost use Rattle.rule_sorts.specs.Faults.{HasLoosePart, IsFaultyMessage, IsLooseIn, IsRepeatedIn, RebindsIn};
+ghost use Rattle.flow_syntax.specs.VariableFaults.{IsFaultyVariable};
+ghost use Rattle.rule_sorts.specs.Faults.{HasLoosePart, IsLooseIn, IsRepeatedIn, RebindsIn};
 ghost use Rattle.rule_sorts.specs.Tables.{binder_by, has_name, is_constant_in};
 ghost use Rattle.spec_names.specs.Tables.{AreNames};
 
-use crate::bindings::{Binding, push_binders, push_variables};
+use crate::bindings::{Binding, push_variables};
+use crate::binds::Binds;
 use crate::name_set::{NameSet, add_name, has_name};
-use crate::rules::trigger_pattern;
 use earliest_fault::Earliest;
-use flow_syntax::{FlowRule, Message, Part, PropRule, Spec, SpecFaultKind};
+use flow_syntax::{Message, Part, Spec, SpecFaultKind};
 use flow_term::Text;
 use indexmap::IndexSet;
 use spec_names::Names;
@@ -49,80 +49,36 @@ fn note_repeated(
     Ok(())
 }
 
-fn check_bindings(
+/// Notes each name that a rule or message binds again, or that is that of an item or an element.
+fn note_rebound<B: Binds>(
     alloc: Global,
     spec: &Spec,
     names: &Names<'_>,
-    bindings: &[Binding<'_>],
+    whole: &B,
     earliest: &mut Earliest,
 ) -> Result<(), AllocError>
     requires { AreNames spec.now names.now }
-    ensures { OnOk result (Gathers earliest.old earliest.new (RebindsIn spec.now (map binder_by bindings.now))) }
+    ensures { OnOk result (Gathers earliest.old earliest.new (RebindsIn spec.now (B.binders whole.now))) }
 {
-    note_repeated(alloc, names, bindings, earliest)
+    let bindings = whole.bindings(alloc)?;
+    note_repeated(alloc, names, bindings.as_slice(), earliest)
 }
 
-fn check_head(
+/// The same of each of these rules or messages.
+fn note_all_rebound<B: Binds>(
     alloc: Global,
     spec: &Spec,
     names: &Names<'_>,
-    rule: &FlowRule,
+    wholes: &[B],
     earliest: &mut Earliest,
 ) -> Result<(), AllocError>
     requires { AreNames spec.now names.now }
-    ensures { OnOk result (Gathers earliest.old earliest.new (RebindsIn spec.now (binders_of_head rule.now))) }
+    ensures { OnOk result (Gathers earliest.old earliest.new (SomeHas (λ k whole. RebindsIn spec.now (B.binders whole)) wholes.now)) }
 {
-    let mut bindings = Vec::new(alloc);
-    push_variables(&rule.head, &mut bindings)?;
-    check_bindings(alloc, spec, names, bindings.as_slice(), earliest)
-}
-
-fn check_rule(
-    alloc: Global,
-    spec: &Spec,
-    names: &Names<'_>,
-    rule: &PropRule,
-    earliest: &mut Earliest,
-) -> Result<(), AllocError>
-    requires { AreNames spec.now names.now }
-    ensures { OnOk result (Gathers earliest.old earliest.new (RebindsIn spec.now (binders_of_rule rule.now))) }
-{
-    let mut bindings = Vec::new(alloc);
-    push_variables(trigger_pattern(&rule.trigger), &mut bindings)?;
-    push_binders(&rule.body, &mut bindings)?;
-    check_bindings(alloc, spec, names, bindings.as_slice(), earliest)
-}
-
-/// The names that a message binds, in the order of the text.
-fn bindings_of_message<'a>(
-    alloc: Global,
-    message: &'a Message,
-) -> Result<Vec<Binding<'a>>, AllocError>
-    ensures { IfOk result (λ bindings. map binder_by bindings.items ≡ binders_of_message message.now) }
-{
-    let mut bindings = Vec::new(alloc);
-    push_variables(&message.pattern, &mut bindings)?;
-    match &message.condition {
-        Some(condition) => {
-            push_binders(condition, &mut bindings)?;
-            Ok(bindings)
-        }
-        None => Ok(bindings),
+    for whole in wholes {
+        note_rebound(alloc, spec, names, whole, earliest)?;
     }
-}
-
-fn check_message_bindings(
-    alloc: Global,
-    spec: &Spec,
-    names: &Names<'_>,
-    message: &Message,
-    earliest: &mut Earliest,
-) -> Result<(), AllocError>
-    requires { AreNames spec.now names.now }
-    ensures { OnOk result (Gathers earliest.old earliest.new (RebindsIn spec.now (binders_of_message message.now))) }
-{
-    let bindings = bindings_of_message(alloc, message)?;
-    check_bindings(alloc, spec, names, bindings.as_slice(), earliest)
+    Ok(())
 }
 
 fn names_of_bindings<'a>(alloc: Global, bindings: &[Binding<'a>]) -> Result<NameSet<'a>, AllocError>
@@ -166,50 +122,15 @@ fn check_parts(alloc: Global, message: &Message, earliest: &mut Earliest) -> Res
     Ok(())
 }
 
-fn check_heads(
+/// The same of each of these messages.
+fn check_all_parts(
     alloc: Global,
-    spec: &Spec,
-    names: &Names<'_>,
-    rules: &[FlowRule],
-    earliest: &mut Earliest,
-) -> Result<(), AllocError>
-    requires { AreNames spec.now names.now }
-    ensures { OnOk result (Gathers earliest.old earliest.new (SomeHas (λ k rule. RebindsIn spec.now (binders_of_head rule)) rules.now)) }
-{
-    for rule in rules {
-        check_head(alloc, spec, names, rule, earliest)?;
-    }
-    Ok(())
-}
-
-fn check_property_rules(
-    alloc: Global,
-    spec: &Spec,
-    names: &Names<'_>,
-    rules: &[PropRule],
-    earliest: &mut Earliest,
-) -> Result<(), AllocError>
-    requires { AreNames spec.now names.now }
-    ensures { OnOk result (Gathers earliest.old earliest.new (SomeHas (λ k rule. RebindsIn spec.now (binders_of_rule rule)) rules.now)) }
-{
-    for rule in rules {
-        check_rule(alloc, spec, names, rule, earliest)?;
-    }
-    Ok(())
-}
-
-fn check_messages(
-    alloc: Global,
-    spec: &Spec,
-    names: &Names<'_>,
     messages: &[Message],
     earliest: &mut Earliest,
 ) -> Result<(), AllocError>
-    requires { AreNames spec.now names.now }
-    ensures { OnOk result (Gathers earliest.old earliest.new (SomeHas (λ k. IsFaultyMessage spec.now) messages.now)) }
+    ensures { OnOk result (Gathers earliest.old earliest.new (SomeHas (λ k. HasLoosePart) messages.now)) }
 {
     for message in messages {
-        check_message_bindings(alloc, spec, names, message, earliest)?;
         check_parts(alloc, message, earliest)?;
     }
     Ok(())
@@ -229,7 +150,8 @@ pub fn check_variables(
     requires { AreNames spec.now names.now }
     ensures { OnOk result (Gathers earliest.old earliest.new (IsFaultyVariable spec.now)) }
 {
-    check_heads(alloc, spec, names, spec.control.as_slice(), earliest)?;
-    check_property_rules(alloc, spec, names, spec.rules.as_slice(), earliest)?;
-    check_messages(alloc, spec, names, spec.messages.as_slice(), earliest)
+    note_all_rebound(alloc, spec, names, spec.control.as_slice(), earliest)?;
+    note_all_rebound(alloc, spec, names, spec.rules.as_slice(), earliest)?;
+    note_all_rebound(alloc, spec, names, spec.messages.as_slice(), earliest)?;
+    check_all_parts(alloc, spec.messages.as_slice(), earliest)
 }

@@ -10,7 +10,7 @@ use Rattle.flow_syntax.specs.declared.expr.SetOp.TheVariants as operations
 use Rattle.flow_syntax.specs.Expressions.{ExprLayer, expr_layer, parts_in}
 use Rattle.simple_rules.specs.declared.form.Form.{Form}
 use Rattle.simple_rules.specs.declared.form.Form.TheVariants as forms
-use Rattle.simple_rules.specs.Forms.{HasForm, IsMerge, joined_form, without_form}
+use Rattle.simple_rules.specs.Forms.{HasForm, joined_form, without_form}
 use Rattle.simple_rules.specs.Simple.{IsFixed, IsSimple, fixed, read, joined, united, without, holds_read, is_read}
 use Rattle.simple_rules.proofs.HeldReads.{held_in}
 
@@ -119,11 +119,3 @@ form_of_difference e a b is f forms.Other p q = λ s. q (fixed b (difference_sim
 -- the form of a read
 pub form_of_read : (e : Expr) (layer : ExprLayer) → expr_layer e ≡ layer → is_read layer ≡ true → IsSimple e × (holds_read e ≡ true)
 form_of_read e layer is h = (read e (ap is_read is ∙ h), held_in e layer is ∙ ap (λ b. b || list_any holds_read (parts_in layer)) h)
-
--- an expression that is no read, no join, no union and no difference is simple only where it is fixed
-pub other_form : (e : Expr) → is_read (expr_layer e) ≡ false → ¬ IsMerge (expr_layer e) → holds_read e ≡ true → ¬ IsSimple e
-other_form _ unread apart reads (fixed e h) = true≢false (sym reads ∙ h)
-other_form _ unread apart reads (read e h) = false≢true (sym unread ∙ h)
-other_form _ unread apart reads (joined e a b is p q) = apart (subst IsMerge (sym is) tt)
-other_form _ unread apart reads (united e a b is p q) = apart (subst IsMerge (sym is) tt)
-other_form _ unread apart reads (without e a b is p q) = apart (subst IsMerge (sym is) tt)

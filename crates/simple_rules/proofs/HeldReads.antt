@@ -1,10 +1,17 @@
 -- Which expressions hold a read, by their layers.
-use Rattle.std.proofs.Common.{◌≡◌, Bool, true, false, ◌||◌, List, [], ◌∷◌, ◌++◌, refl, sym, ap, ◌∙◌}
+use Rattle.std.proofs.Common.{◌≡◌, ℕ, Bool, true, false, ◌||◌, List, [], ◌∷◌, ◌++◌, refl, sym, ap, ◌∙◌, inl, inr}
 use Rattle.std.proofs.Math.Bool.{or-false}
+use Rattle.std.specs.Prelude.{◌⊎◌}
 use Rattle.std.specs.List.{list_any, flat_map}
+use Rattle.flow_syntax.specs.declared.expr.ArithOp.{ArithOp}
+use Rattle.flow_syntax.specs.declared.expr.CompareOp.{CompareOp}
+use Rattle.flow_syntax.specs.declared.expr.SetOp.{SetOp}
 use Rattle.flow_syntax.specs.declared.expr.Expr.{Expr, out-Expr}
 use Rattle.flow_syntax.specs.declared.expr.ExprKind.{ExprKind, out-ExprKind}
+use Rattle.flow_syntax.specs.declared.expr.ExprKind.TheOpen.{ExprKind-F}
+use Rattle.flow_syntax.specs.declared.expr.ExprKind.TheVariants as exprs
 use Rattle.flow_syntax.specs.Expressions.{ExprLayer, expr_layer, parts_in, parts_of, preorder}
+use Rattle.flow_syntax.proofs.ExprLayers.{layer_of_call, layer_of_set_of, layer_of_make_flat, layer_of_fst, layer_of_snd, layer_of_minus, layer_of_not, layer_of_both, layer_of_look, layer_of_set2, layer_of_arith, layer_of_compare, layer_of_member, layer_of_and, layer_of_or, layer_of_bind, layer_of_update, layer_of_if}
 use Rattle.flow_syntax.proofs.Preorders.{preorder_out}
 use Rattle.simple_rules.specs.Simple.{is_read, holds_read}
 
@@ -50,3 +57,37 @@ held_by_more x y z a b es p q r = sym (either_again x y z) ∙ ap (λ v. v || (y
 -- three
 pub held_by_three : (x y z : Bool) (a b c : Expr) → x ≡ holds_read a → y ≡ holds_read b → z ≡ holds_read c → ((x || y) || z) ≡ list_any holds_read (a ∷ b ∷ c ∷ [])
 held_by_three x y z a b c p q r = held_by_more x y z a b (c ∷ []) p q (r ∙ sym (or-false (holds_read c)))
+
+-- WHAT THE FORMS HOLD
+
+-- a form with a list of parts
+pub held_list : (e : Expr) (parts : List Expr) → ((f : List ℕ) × ((out-Expr e).kind ≡ exprs.Call f parts)) ⊎ ((out-Expr e).kind ≡ exprs.SetOf parts) → list_any holds_read parts ≡ holds_read e
+held_list e parts (inl h) = held_by_parts e _ (ExprKind-F.Call h.0 parts) h.1 (layer_of_call h.0 parts) refl
+held_list e parts (inr h) = held_by_parts e _ (ExprKind-F.SetOf parts) h (layer_of_set_of parts) refl
+
+-- with one part
+pub held_one : (e a : Expr) → ((out-Expr e).kind ≡ exprs.MakeFlat a) ⊎ (((out-Expr e).kind ≡ exprs.Fst a) ⊎ (((out-Expr e).kind ≡ exprs.Snd a) ⊎ (((out-Expr e).kind ≡ exprs.Minus a) ⊎ ((out-Expr e).kind ≡ exprs.Not a)))) → holds_read a ≡ holds_read e
+held_one e a (inl h) = sym (or-false (holds_read a)) ∙ held_by_parts e _ (ExprKind-F.MakeFlat a) h (layer_of_make_flat a) refl
+held_one e a (inr (inl h)) = sym (or-false (holds_read a)) ∙ held_by_parts e _ (ExprKind-F.Fst a) h (layer_of_fst a) refl
+held_one e a (inr (inr (inl h))) = sym (or-false (holds_read a)) ∙ held_by_parts e _ (ExprKind-F.Snd a) h (layer_of_snd a) refl
+held_one e a (inr (inr (inr (inl h)))) = sym (or-false (holds_read a)) ∙ held_by_parts e _ (ExprKind-F.Minus a) h (layer_of_minus a) refl
+held_one e a (inr (inr (inr (inr h)))) = sym (or-false (holds_read a)) ∙ held_by_parts e _ (ExprKind-F.Not a) h (layer_of_not a) refl
+
+-- with two parts
+pub held_two : (e a b : Expr)
+    → ((out-Expr e).kind ≡ exprs.Both a b) ⊎ (((out-Expr e).kind ≡ exprs.Look a b) ⊎ (((o : SetOp) × ((out-Expr e).kind ≡ exprs.Set2 o a b)) ⊎ (((o : ArithOp) × ((out-Expr e).kind ≡ exprs.Arith o a b)) ⊎ (((o : CompareOp) × ((out-Expr e).kind ≡ exprs.Compare o a b)) ⊎ (((out-Expr e).kind ≡ exprs.Member a b) ⊎ (((out-Expr e).kind ≡ exprs.And a b) ⊎ (((out-Expr e).kind ≡ exprs.Or a b) ⊎ ((x : List ℕ) × ((out-Expr e).kind ≡ exprs.Bind x a b)))))))))
+    → list_any holds_read (a ∷ b ∷ []) ≡ holds_read e
+held_two e a b (inl h) = held_by_parts e _ (ExprKind-F.Both a b) h (layer_of_both a b) refl
+held_two e a b (inr (inl h)) = held_by_parts e _ (ExprKind-F.Look a b) h (layer_of_look a b) refl
+held_two e a b (inr (inr (inl h))) = held_by_parts e _ (ExprKind-F.Set2 h.0 a b) h.1 (layer_of_set2 h.0 a b) refl
+held_two e a b (inr (inr (inr (inl h)))) = held_by_parts e _ (ExprKind-F.Arith h.0 a b) h.1 (layer_of_arith h.0 a b) refl
+held_two e a b (inr (inr (inr (inr (inl h))))) = held_by_parts e _ (ExprKind-F.Compare h.0 a b) h.1 (layer_of_compare h.0 a b) refl
+held_two e a b (inr (inr (inr (inr (inr (inl h)))))) = held_by_parts e _ (ExprKind-F.Member a b) h (layer_of_member a b) refl
+held_two e a b (inr (inr (inr (inr (inr (inr (inl h))))))) = held_by_parts e _ (ExprKind-F.And a b) h (layer_of_and a b) refl
+held_two e a b (inr (inr (inr (inr (inr (inr (inr (inl h)))))))) = held_by_parts e _ (ExprKind-F.Or a b) h (layer_of_or a b) refl
+held_two e a b (inr (inr (inr (inr (inr (inr (inr (inr h)))))))) = held_by_parts e _ (ExprKind-F.Bind h.0 a b) h.1 (layer_of_bind h.0 a b) refl
+
+-- with three parts
+pub held_three : (e a b c : Expr) → ((out-Expr e).kind ≡ exprs.Update a b c) ⊎ ((out-Expr e).kind ≡ exprs.If a b c) → list_any holds_read (a ∷ b ∷ c ∷ []) ≡ holds_read e
+held_three e a b c (inl h) = held_by_parts e _ (ExprKind-F.Update a b c) h (layer_of_update a b c) refl
+held_three e a b c (inr h) = held_by_parts e _ (ExprKind-F.If a b c) h (layer_of_if a b c) refl

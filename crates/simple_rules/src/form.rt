@@ -75,32 +75,30 @@ fn holds_read(e: &Expr) -> bool
 {
     match &e.kind {
         ExprKind::Read(_, _) => true,
-        ExprKind::Call(_, arguments) => any_holds_read(arguments.as_slice()),
-        ExprKind::MakeFlat(a) => holds_read(a.get()),
-        ExprKind::Fst(a) => holds_read(a.get()),
-        ExprKind::Snd(a) => holds_read(a.get()),
-        ExprKind::Both(a, b) => holds_read(a.get()) | holds_read(b.get()),
-        ExprKind::SetOf(elements) => any_holds_read(elements.as_slice()),
-        ExprKind::Choose(element, _, set, condition) => {
-            holds_read(element.get()) | holds_read(set.get()) | some_holds_read(condition)
-        }
+        ExprKind::Call(_, parts) | ExprKind::SetOf(parts) => any_holds_read(parts.as_slice()),
         ExprKind::MapOf(keys, values) => {
             any_holds_read(keys.as_slice()) | any_holds_read(values.as_slice())
         }
-        ExprKind::Look(a, b) => holds_read(a.get()) | holds_read(b.get()),
-        ExprKind::Update(a, b, c) => {
+        ExprKind::Choose(element, _, set, condition) => {
+            holds_read(element.get()) | holds_read(set.get()) | some_holds_read(condition)
+        }
+        ExprKind::MakeFlat(a)
+        | ExprKind::Fst(a)
+        | ExprKind::Snd(a)
+        | ExprKind::Minus(a)
+        | ExprKind::Not(a) => holds_read(a.get()),
+        ExprKind::Both(a, b)
+        | ExprKind::Look(a, b)
+        | ExprKind::Set2(_, a, b)
+        | ExprKind::Arith(_, a, b)
+        | ExprKind::Compare(_, a, b)
+        | ExprKind::Member(a, b)
+        | ExprKind::And(a, b)
+        | ExprKind::Or(a, b)
+        | ExprKind::Bind(_, a, b) => holds_read(a.get()) | holds_read(b.get()),
+        ExprKind::Update(a, b, c) | ExprKind::If(a, b, c) => {
             holds_read(a.get()) | holds_read(b.get()) | holds_read(c.get())
         }
-        ExprKind::Set2(_, a, b) => holds_read(a.get()) | holds_read(b.get()),
-        ExprKind::Arith(_, a, b) => holds_read(a.get()) | holds_read(b.get()),
-        ExprKind::Minus(a) => holds_read(a.get()),
-        ExprKind::Compare(_, a, b) => holds_read(a.get()) | holds_read(b.get()),
-        ExprKind::Member(a, b) => holds_read(a.get()) | holds_read(b.get()),
-        ExprKind::And(a, b) => holds_read(a.get()) | holds_read(b.get()),
-        ExprKind::Or(a, b) => holds_read(a.get()) | holds_read(b.get()),
-        ExprKind::Not(a) => holds_read(a.get()),
-        ExprKind::Bind(_, a, b) => holds_read(a.get()) | holds_read(b.get()),
-        ExprKind::If(a, b, c) => holds_read(a.get()) | holds_read(b.get()) | holds_read(c.get()),
         _ => false,
     }
 }

@@ -1,18 +1,17 @@
 -- What a look-up finds, and the number at which it finds it.
-use Rattle.std.proofs.Common.{◌≡◌, ℕ, suc, ◌+◌, ◌<◌, Bool, true, false, cond, List, [], ◌∷◌, length, Option, None, Some, is_some, refl, sym, ap, ◌∙◌, arith}
-use Rattle.std.specs.Prelude.{◌==◌, ◌&&◌, find, slice_get, option_and_then}
-use Rattle.std.specs.List.{list_any, position_from}
+use Rattle.std.proofs.Common.{◌≡◌, ℕ, suc, ◌+◌, Bool, true, false, cond, List, [], ◌∷◌, Option, None, Some, is_some, refl, sym, ap, ◌∙◌, arith}
+use Rattle.std.specs.Prelude.{find, slice_get, option_and_then}
+use Rattle.std.specs.List.{position_from}
 use Rattle.std.specs.Option.{option_map, option_map_or}
 use Rattle.flow_syntax.specs.declared.signature.Signature.{Signature}
 use Rattle.flow_syntax.specs.declared.spec.Spec.{Spec}
 use Rattle.flow_syntax.specs.declared.tables.TableDecl.{TableDecl}
 use Rattle.flow_syntax.specs.DeclFaults as decl
-use Rattle.flow_syntax.specs.RuleFaults as rule
 use Rattle.flow_syntax.specs.Telling as told
 use Rattle.flow_syntax.specs.Telling.{is_among}
 use Rattle.spec_names.specs.declared.names.Names.{Names}
 use Rattle.spec_names.specs.Names.{is_called}
-use Rattle.spec_names.specs.Tables.{AreNames, enum_in, lattice_in, function_in, property_in, first_rule_in, enum_of_item_in, lattice_of_element_in, element_in, constructor_in, is_constructor_in, is_sort_in}
+use Rattle.spec_names.specs.Tables.{AreNames, enum_in, lattice_in, function_in, property_in, first_rule_in, enum_of_item_in, lattice_of_element_in, element_in, is_sort_in}
 use Rattle.spec_names.proofs.TableLemmas.{is_some-position_from}
 
 -- the numbers of a list that starts at another number
@@ -60,20 +59,7 @@ module _ {T : Type 0} (t : T → Bool) (xs : List T) (number : Option ℕ) (is :
   pub is_found : is_some (find t xs) ≡ is_some number
   is_found = is_some-find t 0 xs ∙ ap is_some (sym is)
 
--- a number that is answered is within the list
-pub number_within : {T : Type 0} (t : T → Bool) (xs : List T) (k : ℕ) → position_from t 0 xs ≡ Some k → k < length xs
-number_within t [] k e = cc
-number_within t (x ∷ xs) k e = by (t x) (position_from t 0 xs) (number_within t xs) (position_from-next t 0 xs) e
-  where
-    by : (b : Bool) (o : Option ℕ) → ((j : ℕ) → o ≡ Some j → j < length xs) → position_from t 1 xs ≡ option_map (λ j. j + 1) o → cond b (Some 0) (position_from t 1 xs) ≡ Some k → k < length (x ∷ xs)
-    by true o rest next h = let zero : 0 ≡ k = cc in omega (arith, zero)
-    by false None rest next h = cc
-    by false (Some j) rest next h = let same : j + 1 ≡ k = cc in let within = rest j refl in omega (arith, same, within)
-
 module _ (spec : Spec) (names : Names) (are : AreNames spec names) (x : List ℕ) where
-  pub found_enum : decl.enum_named spec x ≡ option_and_then (slice_get spec.enums) (enum_in names x)
-  found_enum = found_at (λ d. is_called x d.name) spec.enums (enum_in names x) (are.enums x)
-
   pub is_some-enum : is_some (decl.enum_named spec x) ≡ is_some (enum_in names x)
   is_some-enum = is_found (λ d. is_called x d.name) spec.enums (enum_in names x) (are.enums x)
 
@@ -85,9 +71,6 @@ module _ (spec : Spec) (names : Names) (are : AreNames spec names) (x : List ℕ
 
   pub found_function : told.function_named spec x ≡ option_and_then (slice_get spec.functions) (function_in names x)
   found_function = found_at (λ d. is_called x d.name) spec.functions (function_in names x) (are.functions x)
-
-  pub is_some-function : is_some (told.function_named spec x) ≡ is_some (function_in names x)
-  is_some-function = is_found (λ d. is_called x d.name) spec.functions (function_in names x) (are.functions x)
 
   pub found_property : told.property_named spec x ≡ option_and_then (slice_get spec.properties) (property_in names x)
   found_property = found_at (λ d. is_called x d.name) spec.properties (property_in names x) (are.properties x)
@@ -101,32 +84,13 @@ module _ (spec : Spec) (names : Names) (are : AreNames spec names) (x : List ℕ
   pub found_item : told.enum_with spec x ≡ option_and_then (slice_get spec.enums) (enum_of_item_in names x)
   found_item = found_at (λ d. is_among x d.items) spec.enums (enum_of_item_in names x) (are.items x)
 
-  pub is_some-item : is_some (told.enum_with spec x) ≡ is_some (enum_of_item_in names x)
-  is_some-item = is_found (λ d. is_among x d.items) spec.enums (enum_of_item_in names x) (are.items x)
-
   pub found_element : told.lattice_with spec x ≡ option_and_then (slice_get spec.lattices) (lattice_of_element_in names x)
   found_element = found_at (λ d. is_among x d.elements) spec.lattices (lattice_of_element_in names x) (are.elements x)
-
-  pub is_some-element : is_some (told.lattice_with spec x) ≡ is_some (lattice_of_element_in names x)
-  is_some-element = is_found (λ d. is_among x d.elements) spec.lattices (lattice_of_element_in names x) (are.elements x)
 
   -- whether a name is an element of the lattice with this number
   pub is_some-element_of : (n : ℕ) (l : TableDecl) → slice_get spec.lattices n ≡ Some l → is_some (element_in names n x) ≡ is_among x l.elements
   is_some-element_of n l at = ap is_some (are.elements_of n x ∙ ap (option_and_then (λ (m : TableDecl). position_from (is_called x) 0 m.elements)) at) ∙ is_some-position_from (is_called x) 0 l.elements
 
-  module _ (signature : Signature) (is : spec.signature ≡ Some signature) where
-    -- the constructors and sorts of the signature
-    pub is_constructor-signature : is_constructor_in names x ≡ rule.is_constructor signature x
-    is_constructor-signature = are.constructor_names x ∙ ap (λ (o : Option Signature). list_any (λ c. is_called x c.name) (option_map_or (λ s. s.constructors) o [])) is
-
-    pub is_some-constructor : (n : ℕ) → is_some (constructor_in names x n) ≡ rule.is_constructor_with signature x n
-    is_some-constructor n =
-        ap is_some (are.constructors x n) ∙ is_some-position_from (λ c. is_called x c.name && (n == length c.args)) 0 (decl.constructors spec)
-        ∙ ap (λ (o : Option Signature). list_any (λ c. is_called x c.name && (n == length c.args)) (option_map_or (λ s. s.constructors) o [])) is
-
-    pub is_sort-signature : is_sort_in names x ≡ decl.is_tree_sort signature x
-    is_sort-signature = are.sorts x ∙ ap (λ (o : Option Signature). option_map_or (λ s. decl.is_tree_sort s x) o false) is
-
-  -- without a signature there are none
-  pub no_sort : spec.signature ≡ None → is_sort_in names x ≡ false
-  no_sort is = are.sorts x ∙ ap (λ (o : Option Signature). option_map_or (λ s. decl.is_tree_sort s x) o false) is
+  -- the sorts of the signature
+  pub is_sort-signature : (signature : Signature) → spec.signature ≡ Some signature → is_sort_in names x ≡ decl.is_tree_sort signature x
+  is_sort-signature signature is = are.sorts x ∙ ap (λ (o : Option Signature). option_map_or (λ s. decl.is_tree_sort s x) o false) is

@@ -4,22 +4,11 @@ use Rattle.std.proofs.lemmas.List.{map-append, take_more, length-take-le}
 use Rattle.std.specs.Borrow.{Bor}
 use Rattle.std.specs.List.{list_any, position_from}
 use Rattle.std.specs.Map.{lookup}
-use Rattle.std.specs.Str.{bytes_eq as texts_eq}
-use Rattle.std.specs.Cmp.Lexicographic.{bytes_decides}
 use Rattle.std.specs.HashMap.{HashMap, get}
 use Rattle.std.specs.Prelude.{◌==◌, ◌&&◌}
 use Rattle.indexmap.specs.IndexMap.{insert_entry}
 use Rattle.indexmap.proofs.CallerLemmas.{insert_entry-new}
 use Rattle.spec_names.specs.Tables.{or_where, shape_in, value_in}
-
-pub or_where-false : {V : Type 0} (o : Option V) (v : V) → or_where o false v ≡ o
-or_where-false None v = refl
-or_where-false (Some u) v = refl
-
-pub or_where-or : {V : Type 0} (o : Option V) (a b : Bool) (v : V) → or_where (or_where o a v) b v ≡ or_where o (a || b) v
-or_where-or None true b v = refl
-or_where-or None false b v = refl
-or_where-or (Some u) a b v = refl
 
 -- one entry more
 pub lookup-push : {K V : Type 0} (t : K → Bool) (es : List (K × V)) (k : K) (v : V) → lookup t (es ++ (k, v) ∷ []) ≡ or_where (lookup t es) (t k) v
@@ -29,19 +18,6 @@ lookup-push t (e ∷ es) k v = by (lookup-push t es k v) (t e.0)
     by : lookup t (es ++ (k, v) ∷ []) ≡ or_where (lookup t es) (t k) v → (b : Bool) → cond b (Some e.1) (lookup t (es ++ (k, v) ∷ [])) ≡ or_where (cond b (Some e.1) (lookup t es)) (t k) v
     by rest true = refl
     by rest false = rest
-
--- a name that is there already changes nothing
-pub lookup-present : {V : Type 0} (es : List (Bor (List ℕ) × V)) (name : List ℕ) (v : V) → is_some (lookup (λ (k : Bor (List ℕ)). bytes_eq name k.now) es) ≡ true → (x : List ℕ)
-    → lookup (λ (k : Bor (List ℕ)). bytes_eq x k.now) es ≡ or_where (lookup (λ (k : Bor (List ℕ)). bytes_eq x k.now) es) (bytes_eq x name) v
-lookup-present es name v there x = by (bytes_eq x name) refl
-  where
-    some : (o : Option _) → is_some o ≡ true → o ≡ or_where o true v
-    some None h = absurd (true≢false (sym h))
-    some (Some u) h = refl
-
-    by : (b : Bool) → bytes_eq x name ≡ b → lookup (λ (k : Bor (List ℕ)). bytes_eq x k.now) es ≡ or_where (lookup (λ (k : Bor (List ℕ)). bytes_eq x k.now) es) b v
-    by false e = sym (or_where-false _ v)
-    by true e = some _ (ap (λ (y : List ℕ). is_some (lookup (λ (k : Bor (List ℕ)). bytes_eq y k.now) es)) ((bytes_decides x name).0 e) ∙ there)
 
 pub list_any-push : {T : Type 0} (t : T → Bool) (xs : List T) (y : T) → list_any t (xs ++ y ∷ []) ≡ (list_any t xs || t y)
 list_any-push t [] y = by (t y)

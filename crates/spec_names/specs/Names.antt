@@ -1,5 +1,5 @@
 -- What a name of a specification stands for, by its number: each time the first that is declared with it.
-use Rattle.std.specs.Prelude.{ℕ, Bool, false, ◌&&◌, ◌||◌, ◌==◌, List, Option, length, is_some, bytes_eq, slice_get, option_and_then}
+use Rattle.std.specs.Prelude.{ℕ, Bool, false, ◌&&◌, ◌==◌, List, Option, length, bytes_eq, slice_get, option_and_then}
 use Rattle.std.specs.List.{list_any, position_from}
 use Rattle.std.specs.Option.{option_map_or}
 use Rattle.flow_syntax.specs.declared.spec.Named.{Named}
@@ -39,10 +39,6 @@ enum_with_item spec x = position_from (λ d. is_among x d.items) 0 spec.enums
 -- the number of the lattice that has an element x
 abbrev pub lattice_with_element : Spec → List ℕ → Option ℕ
 lattice_with_element spec x = position_from (λ d. is_among x d.elements) 0 spec.lattices
-
--- whether an item of an enum or an element of a lattice is called x
-abbrev pub is_item_or_element : Spec → List ℕ → Bool
-is_item_or_element spec x = is_some (enum_with_item spec x) || is_some (lattice_with_element spec x)
 
 -- the number of the element x in a lattice
 abbrev pub element_named : TableDecl → List ℕ → Option ℕ

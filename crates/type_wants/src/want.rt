@@ -1,6 +1,6 @@
 //! What is wanted of the types of the parts of an expression.
-ghost use Rattle.std.specs.Prelude.{◌≡◌, IfOk};
-ghost use Rattle.flow_syntax.specs.Types.{typing_of, sort_of, lattice_of, element, lattice};
+ghost use Rattle.std.specs.Prelude.{◌≡◌, IfOk, if◌then◌else◌};
+ghost use Rattle.flow_syntax.specs.Types.{typing_of, sort_of, lattice_of, element, lattice, has_shape};
 ghost use Rattle.flow_syntax.specs.Wants.{known, free, known_sort, element_want, source_shape, source_want, flat_want, key_want, value_want, part_want, first_want, second_want, same_want, left_want, map_want, like, right_want, updated_key_want, updated_value_want};
 ghost use Rattle.flow_syntax.specs.ExprPlaces.{truth_want, int_want, chosen_sort};
 ghost use Rattle.type_wants.specs.Views.{shape_of, sort_in, telling_of, want_of};
@@ -189,18 +189,23 @@ pub fn second_want(alloc: Global, want: &Want) -> Result<Want, AllocError>
     }
 }
 
+/// This type where it is in the group.
+fn known_in(alloc: Global, shape: Shape, typing: &ExprType) -> Result<Want, AllocError>
+    ensures { IfOk result (λ w. want_of w ≡ (if has_shape (shape_of shape) (typing_of typing.now) then known (typing_of typing.now) else free)) }
+{
+    if is_in(shape, typing) {
+        known_type(alloc, typing)
+    } else {
+        Ok(free())
+    }
+}
+
 /// Of a part that has the type of the whole, which is in the group.
 pub fn same_want(alloc: Global, shape: Shape, want: &Want) -> Result<Want, AllocError>
     ensures { IfOk result (λ w. want_of w ≡ same_want (shape_of shape) (want_of want.now)) }
 {
     match want {
-        Want::Known(typing) => {
-            if is_in(shape, typing) {
-                known_type(alloc, typing)
-            } else {
-                Ok(free())
-            }
-        }
+        Want::Known(typing) => known_in(alloc, shape, typing),
         _ => Ok(free()),
     }
 }
@@ -238,13 +243,7 @@ pub fn like(alloc: Global, shape: Shape, told: &Telling) -> Result<Want, AllocEr
     ensures { IfOk result (λ w. want_of w ≡ like (shape_of shape) (telling_of told.now)) }
 {
     match told {
-        Telling::Is(typing) => {
-            if is_in(shape, typing) {
-                known_type(alloc, typing)
-            } else {
-                Ok(free())
-            }
-        }
+        Telling::Is(typing) => known_in(alloc, shape, typing),
         _ => Ok(free()),
     }
 }

@@ -1,41 +1,27 @@
 use Rattle.std.proofs.Common.{[], ◌∷◌, ◌++◌, false, map, ◌∙◌, ap, refl, sym, arith}
 use Rattle.std.proofs.lemmas.List.{append-nil}
 use Rattle.flow_syntax.specs.Binders.{binder}
-use Rattle.rule_sorts.specs.Tables.{known_by, names_at}
-use Rattle.rule_sorts.proofs.ExprBinders.{at_past, flat_more, names_arith, names_bind, names_call, names_choose_none, names_choose_some, names_compare, names_in, names_map_of, names_of_keys, names_set2, names_set_of, names_three, names_two, pushed, pushed_behind, pushed_two, turn_more, turns_done}
+use Rattle.rule_sorts.specs.Tables.{known_by, names_at, names_of_choice}
+use Rattle.rule_sorts.proofs.ExprBinders.{at_past, flat_more, choice_with, choice_without, names_bind, names_choose, names_in, names_list, names_map_of, names_of_keys, names_three, names_two, pushed, pushed_behind, pushed_two, turn_more, turns_done}
 use Rattle.rule_sorts.proofs.bindings.+binders.Goals as goal
 
 pub push_binders-returns-in-Call : goal.push_binders-returns-in-Call
 push_binders-returns-in-Call t c =
-    pushed _ (map known_by c.args.out.now.items) _ _ (names_in c.args.e.now) c.push_binders_of_each.ensures (names_call c.args.e.now c.in-Call.field-0 c.in-Call.parts _ c.in-Call.is c.as_slice.ensures)
-
-pub push_binders-returns-in-SetOf : goal.push_binders-returns-in-SetOf
-push_binders-returns-in-SetOf t c =
-    pushed _ (map known_by c.args.out.now.items) _ _ (names_in c.args.e.now) c.push_binders_of_each-in-SetOf.ensures (names_set_of c.args.e.now c.in-SetOf.parts _ c.in-SetOf.is c.as_slice-in-SetOf.ensures)
+    pushed _ (map known_by c.args.out.now.items) _ _ (names_in c.args.e.now) c.push_binders_of_each.ensures (names_list c.args.e.now c.in-Call.parts _ c.in-Call.is c.as_slice.ensures)
 
 pub push_binders-returns-in-MapOf : goal.push_binders-returns-in-MapOf
 push_binders-returns-in-MapOf t c =
     pushed _ (map known_by c.args.out.now.items) _ _ (names_in c.args.e.now) c.push_binders_of_map.ensures (names_map_of c.args.e.now c.in-MapOf.field-0 c.in-MapOf.field-1 c.in-MapOf.is)
 
+pub push_binders-returns-in-Choose : goal.push_binders-returns-in-Choose
+push_binders-returns-in-Choose t c =
+    pushed _ (map known_by c.args.out.now.items) _ _ (names_in c.args.e.now) c.push_binders_of_choice.ensures
+    (names_choose c.args.e.now c.in-Choose.field-0 c.in-Choose.field-1 c.in-Choose.field-2 c.in-Choose.field-3 c.in-Choose.is)
+
 pub push_binders-returns-in-Both : goal.push_binders-returns-in-Both
 push_binders-returns-in-Both t c =
     pushed_behind _ (map known_by c.args.out.now.items) (names_in c.get-in-Both.result.now) (names_in c.get-in-Both-2.result.now) _ _ (names_in c.args.e.now) c.in_ok-push_binders-in-Both.ensures c.push_binders-in-Both-2.ensures
     (names_two c.args.e.now c.in-Both.a c.in-Both.b _ _ c.in-Both.is c.get-in-Both.ensures c.get-in-Both-2.ensures)
-
-pub push_binders-returns-in-Set2 : goal.push_binders-returns-in-Set2
-push_binders-returns-in-Set2 t c =
-    pushed_behind _ (map known_by c.args.out.now.items) (names_in c.get.result.now) (names_in c.get-in-Set2.result.now) _ _ (names_in c.args.e.now) c.in_ok-push_binders-in-Set2.ensures c.push_binders-in-Set2.ensures
-    (names_set2 c.args.e.now c.in-Set2.field-0 c.in-Set2.a c.in-Set2.b _ _ c.in-Set2.is c.get.ensures c.get-in-Set2.ensures)
-
-pub push_binders-returns-in-Arith : goal.push_binders-returns-in-Arith
-push_binders-returns-in-Arith t c =
-    pushed_behind _ (map known_by c.args.out.now.items) (names_in c.get-in-Arith.result.now) (names_in c.get-in-Arith-2.result.now) _ _ (names_in c.args.e.now) c.in_ok-push_binders-in-Arith.ensures c.push_binders-in-Arith-2.ensures
-    (names_arith c.args.e.now c.in-Arith.field-0 c.in-Arith.a c.in-Arith.b _ _ c.in-Arith.is c.get-in-Arith.ensures c.get-in-Arith-2.ensures)
-
-pub push_binders-returns-in-Compare : goal.push_binders-returns-in-Compare
-push_binders-returns-in-Compare t c =
-    pushed_behind _ (map known_by c.args.out.now.items) (names_in c.get-in-Compare.result.now) (names_in c.get-in-Compare-2.result.now) _ _ (names_in c.args.e.now) c.in_ok-push_binders-in-Compare.ensures c.push_binders-in-Compare-2.ensures
-    (names_compare c.args.e.now c.in-Compare.field-0 c.in-Compare.a c.in-Compare.b _ _ c.in-Compare.is c.get-in-Compare.ensures c.get-in-Compare-2.ensures)
 
 pub push_binders-returns-in-Update : goal.push_binders-returns-in-Update
 push_binders-returns-in-Update t c =
@@ -46,26 +32,26 @@ push_binders-returns-in-Update t c =
 
 pub push_binders-returns-in-Bind : goal.push_binders-returns-in-Bind
 push_binders-returns-in-Bind t c =
-    pushed_behind _ (map known_by c.args.out.now.items) (((binder c.in-Bind.name c.args.e.now.place, false) ∷ []) ++ names_in c.get-in-Bind.result.now) (names_in c.get-in-Bind-2.result.now) _ _ (names_in c.args.e.now)
-    (pushed_two (map known_by c.args.out.now.items) ((binder c.in-Bind.name c.args.e.now.place, false) ∷ []) (names_in c.get-in-Bind.result.now) _ _ _ c.in_ok-push_binding-in-Bind.ensures c.in_ok-push_binders-in-Bind.ensures refl)
-    c.push_binders-in-Bind-2.ensures
-    (names_bind c.args.e.now c.in-Bind.name c.in-Bind.a c.in-Bind.b _ _ c.in-Bind.is c.get-in-Bind.ensures c.get-in-Bind-2.ensures)
+    pushed_behind _ (map known_by c.args.out.now.items) (((binder c.in-Bind.name c.args.e.now.place, false) ∷ []) ++ names_in c.get.result.now) (names_in c.get-in-Bind.result.now) _ _ (names_in c.args.e.now)
+    (pushed_two (map known_by c.args.out.now.items) ((binder c.in-Bind.name c.args.e.now.place, false) ∷ []) (names_in c.get.result.now) _ _ _ c.in_ok-push_binding-in-Bind.ensures c.in_ok-push_binders-in-Bind.ensures refl)
+    c.push_binders-in-Bind.ensures
+    (names_bind c.args.e.now c.in-Bind.name c.in-Bind.a c.in-Bind.b _ _ c.in-Bind.is c.get.ensures c.get-in-Bind.ensures)
 
-pub push_binders-returns-in-None : goal.push_binders-returns-in-None
-push_binders-returns-in-None t c =
-    pushed_two (map known_by c.args.out.now.items) (names_in c.get-in-Choose.result.now ++ (binder c.in-Choose.name c.args.e.now.place, false) ∷ []) (names_in c.get-in-Choose-2.result.now) _ _ (names_in c.args.e.now)
-    (pushed_two (map known_by c.args.out.now.items) (names_in c.get-in-Choose.result.now) ((binder c.in-Choose.name c.args.e.now.place, false) ∷ []) _ _ _ c.in_ok-push_binders-in-Choose.ensures c.in_ok-push_binding-in-Choose.ensures refl)
-    c.in_ok-push_binders-in-Choose-2.ensures
-    (names_choose_none c.args.e.now c.in-Choose.element c.in-Choose.name c.in-Choose.set _ _ c.in-Choose.condition c.in-Choose.is c.in-None.is c.get-in-Choose.ensures c.get-in-Choose-2.ensures)
+pub push_binders_of_choice-returns-in-None : goal.push_binders_of_choice-returns-in-None
+push_binders_of_choice-returns-in-None t c =
+    pushed_two (map known_by c.args.out.now.items) (names_in c.get.result.now ++ (binder c.in-Choose.name c.args.e.now.place, false) ∷ []) (names_in c.get-2.result.now) _ _ (names_of_choice c.args.e.now)
+    (pushed_two (map known_by c.args.out.now.items) (names_in c.get.result.now) ((binder c.in-Choose.name c.args.e.now.place, false) ∷ []) _ _ _ c.in_ok-push_binders.ensures c.in_ok-push_binding.ensures refl)
+    c.in_ok-push_binders-2.ensures
+    (choice_without c.args.e.now c.in-Choose.element c.in-Choose.name c.in-Choose.set _ _ c.in-Choose.condition c.in-Choose.is c.in-None.is c.get.ensures c.get-2.ensures)
 
-pub push_binders-returns-in-Some : goal.push_binders-returns-in-Some
-push_binders-returns-in-Some t c =
-    pushed_behind _ (map known_by c.args.out.now.items) (names_in c.get-in-Choose.result.now ++ ((binder c.in-Choose.name c.args.e.now.place, false) ∷ []) ++ names_in c.get-in-Choose-2.result.now) (names_in c.get-in-Some.result.now) _ _ (names_in c.args.e.now)
-    (pushed_two (map known_by c.args.out.now.items) (names_in c.get-in-Choose.result.now ++ (binder c.in-Choose.name c.args.e.now.place, false) ∷ []) (names_in c.get-in-Choose-2.result.now) _ _ _
-    (pushed_two (map known_by c.args.out.now.items) (names_in c.get-in-Choose.result.now) ((binder c.in-Choose.name c.args.e.now.place, false) ∷ []) _ _ _ c.in_ok-push_binders-in-Choose.ensures c.in_ok-push_binding-in-Choose.ensures refl)
-    c.in_ok-push_binders-in-Choose-2.ensures refl)
+pub push_binders_of_choice-returns-in-Some : goal.push_binders_of_choice-returns-in-Some
+push_binders_of_choice-returns-in-Some t c =
+    pushed_behind _ (map known_by c.args.out.now.items) (names_in c.get.result.now ++ ((binder c.in-Choose.name c.args.e.now.place, false) ∷ []) ++ names_in c.get-2.result.now) (names_in c.get-in-Some.result.now) _ _ (names_of_choice c.args.e.now)
+    (pushed_two (map known_by c.args.out.now.items) (names_in c.get.result.now ++ (binder c.in-Choose.name c.args.e.now.place, false) ∷ []) (names_in c.get-2.result.now) _ _ _
+    (pushed_two (map known_by c.args.out.now.items) (names_in c.get.result.now) ((binder c.in-Choose.name c.args.e.now.place, false) ∷ []) _ _ _ c.in_ok-push_binders.ensures c.in_ok-push_binding.ensures refl)
+    c.in_ok-push_binders-2.ensures refl)
     c.push_binders-in-Some.ensures
-    (names_choose_some c.args.e.now c.in-Choose.element c.in-Choose.name c.in-Choose.set c.in-Some.condition _ _ _ c.in-Choose.condition c.in-Choose.is c.in-Some.is c.get-in-Choose.ensures c.get-in-Choose-2.ensures c.get-in-Some.ensures)
+    (choice_with c.args.e.now c.in-Choose.element c.in-Choose.name c.in-Choose.set c.in-Some.condition _ _ _ c.in-Choose.condition c.in-Choose.is c.in-Some.is c.get.ensures c.get-2.ensures c.get-in-Some.ensures)
 
 pub push_binders_of_map-loop-at-preserved : goal.push_binders_of_map-loop-at-preserved
 push_binders_of_map-loop-at-preserved t c =
