@@ -1,0 +1,5 @@
+pub mod Alike
+pub mod Laws
+pub mod Owners
+pub mod Parts
+pub mod Replacements

@@ -1,0 +1,3 @@
+pub mod AlongPaths
+pub mod Changes
+pub mod PartSizes

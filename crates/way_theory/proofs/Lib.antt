@@ -1,0 +1,4 @@
+pub mod HopLemmas
+pub mod ListLemmas
+pub mod PartLemmas
+pub mod WayLemmas

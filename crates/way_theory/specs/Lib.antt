@@ -1,0 +1,4 @@
+pub mod Hops
+pub mod Lists
+pub mod Parts
+pub mod Ways
