@@ -1,0 +1,4 @@
+mod Modes
+mod Forms
+mod Rules
+mod Walks
