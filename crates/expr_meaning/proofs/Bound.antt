@@ -32,9 +32,9 @@ module _ (usable : Usable) where
   pub suits_more : (vs : List Variable) (at : Situation) (x : List ℕ) (s : Sort) (e : Elem) → Suits usable vs at → IsOfSort s e → Suits usable (and_variable vs x s) (with_bound at x e)
   suits_more vs at x s e h k = record {
     bound = λ y used.
-      subst (λ (o : Option Variable). IsBoundAs o (bound_to (at.bindings ++ record { name = x; value = e } ∷ []) y)) (sym (find_more (λ v. bytes_eq y v.name) vs (record { name = x; sort = s })))
-      (subst (λ (o : Option Bound). IsBoundAs (or_else (variable_of vs y) (cond (bytes_eq y x) (Some (record { name = x; sort = s })) None)) o) (sym (find_more (λ b. bytes_eq y b.name) at.bindings (record { name = x; value = e })))
-      (one_more (variable_of vs y) (bound_to at.bindings y) (bytes_eq y x) _ _ (h.bound y used) k));
+        subst (λ (o : Option Variable). IsBoundAs o (bound_to (at.bindings ++ record { name = x; value = e } ∷ []) y)) (sym (find_more (λ v. bytes_eq y v.name) vs (record { name = x; sort = s })))
+        (subst (λ (o : Option Bound). IsBoundAs (or_else (variable_of vs y) (cond (bytes_eq y x) (Some (record { name = x; sort = s })) None)) o) (sym (find_more (λ b. bytes_eq y b.name) at.bindings (record { name = x; value = e })))
+        (one_more (variable_of vs y) (bound_to at.bindings y) (bytes_eq y x) _ _ (h.bound y used) k));
     reads = h.reads;
   }
 

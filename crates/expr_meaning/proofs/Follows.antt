@@ -27,7 +27,7 @@ use Rattle.value_domains.specs.Domains.{Domain, flat, map_to, IsValueOf, IsBelow
 use Rattle.expr_meaning.specs.Meaning.{elems_given, values_given, set_of, arith_value, number_in, call_value, Meaning, an_element, a_value, a_truth, value_in, elem_in, truth_in, Situation, Usable, Sense, with_bound, meaning, form_meaning, name_meaning, bound_to, compared}
 use Rattle.expr_meaning.specs.Modes.{all_combined, modes_of, mode_of, form_mode, combined, turned, needs, is_must, is_bottom_word}
 use Rattle.expr_meaning.specs.Monotone.{Moves, IsBelowAs, IsLower}
-use Rattle.expr_meaning.specs.Typing.{listed_in, HaveArguments, IsIn, Variable, Held, held, and_variable, Suits, sort_in, elements_of, IsOperand, HasForm, held_parts, AreTyped}
+use Rattle.expr_meaning.specs.Typing.{listed_in, HaveArguments, IsIn, Variable, held, and_variable, Suits, sort_in, elements_of, IsOperand, HasForm, held_parts, AreTyped}
 use Rattle.expr_meaning.proofs.Bound.{suits_more}
 use Rattle.expr_meaning.proofs.TypedParts.{first_typed, rest_typed, inner_typed, split_typed, split_all}
 use Rattle.flow_syntax.proofs.Parts.{given_layer, by_parts_out, by_induction}

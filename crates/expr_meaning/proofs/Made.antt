@@ -1,6 +1,6 @@
 -- The meaning of a typed expression holds only elements that it is given or makes itself: the induction.
-use Rattle.std.proofs.Common.{◌≡◌, ℕ, Bool, true, false, cond, List, [], ◌∷◌, ◌++◌, map, Option, Some, None, refl, sym, ap, subst}
-use Rattle.std.specs.Prelude.{All, Contains, IsTrue, bytes_eq}
+use Rattle.std.proofs.Common.{◌≡◌, ℕ, Bool, true, false, cond, List, [], ◌∷◌, map, Option, Some, None, refl, sym, ap, subst}
+use Rattle.std.specs.Prelude.{All, Contains, bytes_eq}
 use Rattle.std.specs.List.{AllByRecursion}
 use Rattle.std.proofs.lemmas.List.Elements.{All-nil, All-cons}
 use Rattle.flow_term.specs.declared.elem.Elem.{Elem}
@@ -20,8 +20,8 @@ use Rattle.value_domains.specs.Values.{IsOfSort, map_in}
 use Rattle.value_domains.specs.Domains.{Domain, flat, map_to, IsValueOf}
 use Rattle.expr_meaning.specs.Making.{Holds, MeaningHolds, BoundHolds, SituationHolds, HasParts, HasMade}
 use Rattle.expr_meaning.specs.Meaning.{Meaning, value_in, elem_in, truth_in, Situation, Usable, Sense, with_bound, meaning, form_meaning, constant_meaning, name_meaning, bound_to, elems_given, values_given}
-use Rattle.expr_meaning.specs.Ranges.{Range, values, elements, truths, domain_in}
-use Rattle.expr_meaning.specs.Typing.{IsIn, Variable, Held, held, and_variable, variable_of, IsBoundAs, Suits, sort_in, elements_of, HasForm, IsNamed, held_parts, AreTyped}
+use Rattle.expr_meaning.specs.Ranges.{Range, values, elements, domain_in}
+use Rattle.expr_meaning.specs.Typing.{IsIn, Variable, held, and_variable, variable_of, IsBoundAs, Suits, sort_in, elements_of, HasForm, IsNamed, held_parts, AreTyped}
 use Rattle.expr_meaning.proofs.Bound.{or_else, find_more, suits_more}
 use Rattle.expr_meaning.proofs.FormMoves.{value_fact}
 use Rattle.expr_meaning.proofs.Making.{set_holds, made_set, chosen_holds, map_holds, operation_holds, least_holds, unreached_is, top_holds, flat_holds, bind_holds, look_holds, update_holds, map_of_holds, nothing_holds, first_holds, second_holds, both_hold}
@@ -67,7 +67,7 @@ module _ (spec : Spec) (usable : Usable) (range : Expr → Range) (sound : (e : 
   holds_more : (at : Situation) (x : List ℕ) (e : Elem) → SituationHolds Among usable at → Among e → SituationHolds Among usable (with_bound at x e)
   holds_more at x e h k = record {
     bound = λ y used. subst (BoundHolds Among) (sym (find_more (λ b. bytes_eq y b.name) at.bindings (record { name = x; value = e })))
-    (bound_more (bound_to at.bindings y) (bytes_eq y x) (record { name = x; value = e }) (h.bound y used) k);
+        (bound_more (bound_to at.bindings y) (bytes_eq y x) (record { name = x; value = e }) (h.bound y used) k);
     reads = h.reads;
   }
 

@@ -1,5 +1,5 @@
 -- What each form makes holds only elements that its parts hold.
-use Rattle.std.proofs.Common.{◌≡◌, ◌↔◌, Bool, true, false, cond, not, List, [], ◌∷◌, map, Option, Some, None, refl, sym, ap, subst, ◌∙◌}
+use Rattle.std.proofs.Common.{◌≡◌, ◌↔◌, Bool, true, false, cond, not, List, [], ◌∷◌, map, Option, Some, None, sym, subst}
 use Rattle.std.specs.Prelude.{All, unwrap_or}
 use Rattle.std.specs.List.{filter}
 use Rattle.std.specs.Map.{keys_of, values_of}
@@ -10,7 +10,7 @@ use Rattle.std.proofs.lemmas.List.Elements.{All-nil, All-cons, All-head, All-tai
 use Rattle.std.proofs.lemmas.Map.Views.{All-keys-insert_entry, All-values-insert_entry}
 use Rattle.flow_term.specs.declared.elem.Elem.{Elem, Elem-F, out-Elem, roll-Elem, roll-out-Elem}
 use Rattle.flow_term.specs.declared.elem.Elem.TheVariants as elem
-use Rattle.flow_term.specs.declared.value.Value.{Value, Value-F, out-Value, roll-Value, out-roll-Value}
+use Rattle.flow_term.specs.declared.value.Value.{Value, Value-F, out-Value, out-roll-Value}
 use Rattle.flow_term.specs.declared.value.Value.TheVariants as value
 use Rattle.flow_term.specs.Elements.{elem_cmp}
 use Rattle.flow_syntax.specs.declared.expr.SetOp.{SetOp}
@@ -20,8 +20,8 @@ use Rattle.value_domains.specs.Values.{ValueLayer, union_of, intersection_of, ha
 use Rattle.value_domains.specs.Domains.{Domain, may, must, flat, map_to, pair_of, listed, IsValueOf, least_of, joined_of}
 use Rattle.value_domains.specs.inner.DomainLaws.{all_union, all_keys, pairs_back}
 use Rattle.expr_meaning.specs.Making.{FlatHolds, Holds, MeaningHolds}
-use Rattle.expr_meaning.specs.Meaning.{Meaning, an_element, a_value, a_truth, value_in, elem_in, first_part, second_part, first_of, second_of, pair_meaning, is_least, without_key, updated, joined_in, map_of, key_values, set_of, difference_of, on_set, on_sets, operation, chosen, bind_value}
-use Rattle.expr_meaning.specs.Ranges.{Range, values, elements}
+use Rattle.expr_meaning.specs.Meaning.{Meaning, an_element, a_value, first_part, second_part, first_of, second_of, pair_meaning, is_least, without_key, updated, joined_in, map_of, key_values, set_of, difference_of, on_set, on_sets, operation, chosen, bind_value}
+use Rattle.expr_meaning.specs.Ranges.{Range}
 use Rattle.expr_meaning.specs.Typing.{IsIn, IsFirst, IsSecond, IsPair, of_values, of_elements, IsSets, of_may, of_must, AreAlike, both_may, both_must, sort_in, IsOperand}
 use Rattle.expr_meaning.proofs.Members.{keys_kept, values_kept}
 

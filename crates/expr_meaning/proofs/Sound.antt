@@ -1,5 +1,5 @@
 -- The meaning of a typed expression is in its range: the induction.
-use Rattle.std.proofs.Common.{◌≡◌, ℕ, Bool, true, false, cond, List, [], ◌∷◌, ◌++◌, map, Option, Some, None, sym, ap, subst}
+use Rattle.std.proofs.Common.{◌≡◌, ℕ, Bool, true, false, cond, List, [], ◌∷◌, map, Option, Some, None, sym, ap, subst}
 use Rattle.std.specs.Prelude.{All}
 use Rattle.std.specs.List.{AllByRecursion}
 use Rattle.std.proofs.lemmas.List.Elements.{All-nil, All-cons}
@@ -26,7 +26,7 @@ use Rattle.value_domains.specs.Domains.{Domain, flat, map_to, IsListed, table_na
 use Rattle.expr_meaning.specs.Meaning.{Meaning, an_element, a_value, a_truth, value_in, elem_in, truth_in, Situation, Usable, Sense, with_bound, meaning, form_meaning, constant_meaning, name_meaning, bound_to, difference_of, operation, elems_given, values_given, call_value}
 use Rattle.expr_meaning.specs.Functions.{AreElements, GivesElements}
 use Rattle.flow_syntax.specs.Parts.{part}
-use Rattle.expr_meaning.specs.Typing.{IsIn, Variable, Held, held, and_variable, variable_of, IsBoundAs, Suits, sort_in, elements_of, IsOperand, HasForm, IsNamed, listed_in, HaveArguments, held_parts, AreTyped}
+use Rattle.expr_meaning.specs.Typing.{IsIn, Variable, held, and_variable, variable_of, IsBoundAs, Suits, sort_in, elements_of, IsOperand, HasForm, IsNamed, listed_in, HaveArguments, held_parts, AreTyped}
 use Rattle.expr_meaning.proofs.Bound.{suits_more}
 use Rattle.expr_meaning.proofs.TypedParts.{first_typed, rest_typed, inner_typed, split_typed, split_all}
 use Rattle.flow_syntax.proofs.Parts.{given_layer, by_parts_out, by_induction}

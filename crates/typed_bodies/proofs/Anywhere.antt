@@ -162,9 +162,10 @@ module _ (spec : Spec) where
     good_at has _ (part p q place among) =
         let outer = good_at has p place in
         let k = in_at (parts_of spec p) q among in
-        let listed = list_all spec (parts_of spec p) (each_listed spec (exprs (parts_of spec p))) in
-        (at_get (IsGood spec) (parts_of spec p) k.0 q k.1 (typed_inside spec p listed.0 outer.0 listed.1),
-        at_get (HoldsWithin spec (HasRange spec range has)) (parts_of spec p) k.0 q k.1 (inner_within (HasRange spec range has) p outer.1.places outer.1.are outer.1.hold))
+        let listed = list_all spec (parts_of spec p) (each_listed spec (exprs (parts_of spec p))) in (
+          at_get (IsGood spec) (parts_of spec p) k.0 q k.1 (typed_inside spec p listed.0 outer.0 listed.1),
+          at_get (HoldsWithin spec (HasRange spec range has)) (parts_of spec p) k.0 q k.1 (inner_within (HasRange spec range has) p outer.1.places outer.1.are outer.1.hold),
+        )
 
     typed_here : (q : Place) → IsPlaceIn spec q → AreTyped spec (used_by spec q.expr) range (held (variables_at q.scope) q.expr ∷ [])
     typed_here q place =

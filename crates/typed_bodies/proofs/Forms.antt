@@ -188,9 +188,12 @@ module _ (spec : Spec) (range : Expr → Range) (has : ℕ → Side → Bool) wh
   call_right : (own : Range) (s : Scope) (f : List ℕ) (args : List Expr) (o : Option FunctionDecl) → function_named spec f ≡ o → ¬ (o ≡ None) → ¬ IsMiscounted o args → ((t : Typing) → result_telling o ≡ is t → own ≡ R t)
       → AllByRecursion IsRanged (arguments s (declared_arguments o) args)
       → (d : FunctionDecl) × (function_named spec f ≡ Some d) × (own ≡ values (listed_in spec d.result)) × HaveArguments spec range d.args args
-  call_right own s f args (Some d) e n c tells parts =
-      (d, e, tells (lattice (table d.result.text)) refl,
-      arguments_right s d.args args ((Decides-eqb (length d.args) (length args)).0 (passed (length d.args == length args) (λ e. c (λ same. true≢false (sym ((Decides-eqb (length d.args) (length args)).1 same) ∙ e))))) parts)
+  call_right own s f args (Some d) e n c tells parts = (
+    d,
+    e,
+    tells (lattice (table d.result.text)) refl,
+    arguments_right s d.args args ((Decides-eqb (length d.args) (length args)).0 (passed (length d.args == length args) (λ e. c (λ same. true≢false (sym ((Decides-eqb (length d.args) (length args)).1 same) ∙ e))))) parts,
+  )
   call_right own s f args None e n c tells parts = absurd (n refl)
 
   first_right : (own : Range) (a : Expr) (u : Telling) (t : Typing) → u ≡ is t → has_shape any_pair t ≡ true → ((x : Typing) → first_of u ≡ is x → own ≡ R x) → range a ≡ R t → IsFirst own (range a)
@@ -220,9 +223,14 @@ module _ (spec : Spec) (range : Expr → Range) (has : ℕ → Side → Bool) wh
       → (x : Sort) × (d : Domain) × (own ≡ values (dom.map_to x d)) × (range m ≡ values (dom.map_to x d)) × (range k ≡ elements x) × (range v ≡ values d)
   update_told own s m k v x y z t is_t inside is_y is_z tells rm rk rv =
       let q = is_map t inside in
-      let e = is_t ∙ ap is q.2 in
-      (q.0, domain_of spec.lattices q.1, tells (lattice (map_to q.0 q.1)) (ap (λ u. always_told (only any_map u)) e), rm.from_telling (lattice (map_to q.0 q.1)) e, rk.from_want (element q.0) (is_y ∙ ap (λ u. known_sort (key_sort u)) e),
-      rv.from_want (lattice q.1) (is_z ∙ ap (λ u. like any_lattice (value_of u)) e))
+      let e = is_t ∙ ap is q.2 in (
+        q.0,
+        domain_of spec.lattices q.1,
+        tells (lattice (map_to q.0 q.1)) (ap (λ u. always_told (only any_map u)) e),
+        rm.from_telling (lattice (map_to q.0 q.1)) e,
+        rk.from_want (element q.0) (is_y ∙ ap (λ u. known_sort (key_sort u)) e),
+        rv.from_want (lattice q.1) (is_z ∙ ap (λ u. like any_lattice (value_of u)) e),
+      )
 
   pub sets_of : (t : Typing) → has_shape any_set t ≡ true → (d : Domain) × IsSets d × (R t ≡ values d) × (set_sort (is t) ≡ Some (sort_in d))
   sets_of (lattice (may s)) h = (dom.may s, of_may s, refl, refl)

@@ -1,5 +1,5 @@
 -- The list of a specification's expressions has the parts of each, and each expression that stands at a place.
-use Rattle.std.proofs.Common.{◌≡◌, ℕ, zero, suc, List, [], ◌∷◌, ◌++◌, map, arith, sym, ap, subst, inl, inr}
+use Rattle.std.proofs.Common.{zero, suc, List, [], ◌∷◌, ◌++◌, arith, sym, subst, inl, inr}
 use Rattle.std.specs.Prelude.{Contains}
 use Rattle.std.specs.List.{AllByRecursion, flat_map}
 use Rattle.std.proofs.lemmas.List.Elements.{Contains-append_left, Contains-append_right, Contains-append_cases}
@@ -13,7 +13,7 @@ use Rattle.flow_syntax.proofs.Listed.{Contains_here, Contains_behind}
 use Rattle.flow_syntax.proofs.Parts.{by_induction}
 use Rattle.flow_syntax.proofs.Preorders.{preorder_out}
 use Rattle.expr_types.specs.Listing.{ArePlaces, nowhere, there}
-use Rattle.expr_types.proofs.Order.{exprs, exprs_parts, types_in_order}
+use Rattle.expr_types.proofs.Order.{exprs_parts, types_in_order}
 use Rattle.expr_meaning.specs.Making.{HasParts}
 use Rattle.typed_bodies.specs.Accepted.{IsTypedBy}
 use Rattle.typed_bodies.specs.Anywhere.{IsPlaceIn, whole, part}

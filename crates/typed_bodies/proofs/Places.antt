@@ -153,8 +153,8 @@ module _ (spec : Spec) (range : Expr → Range) (has : ℕ → Side → Bool) wh
       let sound = parts_sound spec p listed.0 listed.1 clean in
       let parts = all_ranged (parts_of spec p) inside (heads HasRange (parts_of spec p) inner d rest.0) in
       let form = form_right spec range has p.scope h.variables stand.0.scope li p.want (expr_layer p.expr) (range p.expr)
-          (subst (λ (u : Telling). IsRangeOf spec range has p.want u (range p.expr)) (told_own spec p clean) (ranged_of p clean ranged.0))
-          (subst (λ (u : Telling). IsTyped p.want u) (told_own spec p clean) good.0.1.1) (fits spec p clean) (names_right spec p clean) sound parts in
+      (subst (λ (u : Telling). IsRangeOf spec range has p.want u (range p.expr)) (told_own spec p clean) (ranged_of p clean ranged.0))
+      (subst (λ (u : Telling). IsTyped p.want u) (told_own spec p clean) good.0.1.1) (fits spec p clean) (names_right spec p clean) sound parts in
       let stands = parts_stand p.scope h.variables stand.0.scope p.want (expr_layer p.expr) sound parts in
       subst (λ (x : Expr). AreTyped spec (usable spec range has) range (held h.variables x ∷ hs)) stand.0.expr
       (next (held h.variables p.expr) hs form
