@@ -1,30 +1,24 @@
 -- A section of declarations: its word, and then its declarations turn by turn.
-use Rattle.std.proofs.Common.{◌≡◌, Bool, true, false, List, [], ◌∷◌, ◌++◌, Ok, Err, refl, sym, ap, ◌∙◌}
+use Rattle.std.proofs.Common.{◌≡◌, ◌<◌, true, false, List, [], ◌∷◌, ◌++◌, length, Ok, Err, refl, sym, ap}
 use Rattle.std.proofs.lemmas.List.{map-id}
 use Rattle.flow_syntax.specs.declared.token.Token.{Token}
 use Rattle.grammar.specs.Reading.{Outcome, ◌>>=◌, starts_with}
-use Rattle.grammar.specs.Texts.{Many, Optional, Symbol}
-use Rattle.spec_grammar.proofs.Unrolled.{one_at, bind_bind, added, reads_more, many_turn, many_end}
-use Rattle.spec_grammar.specs.Choice.{begins}
-use Rattle.spec_grammar.specs.Kinds.{code_of, kind_of}
-use Rattle.spec_grammar.specs.Reading.{reads, reads_as, reads_part}
-use Rattle.spec_grammar.specs.Symbols.{Nonterminal, ValueOf}
-use Rattle.spec_grammar.specs.Whole.{section, section_of}
+use Rattle.grammar.specs.Texts.{Many, Symbol}
+use Rattle.spec_grammar.proofs.Turns.{each_turn, each_end, starts}
+use Rattle.spec_grammar.proofs.Unrolled.{one_at, bind_bind, added, reads_take}
+use Rattle.spec_grammar.specs.Kinds.{kind_of}
+use Rattle.spec_grammar.specs.Reading.{reads_part}
 use Rattle.spec_grammar.specs.declared.kind.Kind.{Kind}
+use Rattle.flow_parse.specs.Declarations.{SymbolOf, the_symbol, begins_as, reads_one, reads_further, reads_section, reads_optional_section}
 
--- whether the first token is of this kind
-abbrev pub starts : Kind → List Token → Bool
-starts k ts = starts_with kind_of (code_of k ∷ []) ts
+pub one_takes : {X : Type 0} (d : SymbolOf X) (ts : List Token) (v : X) (rest : List Token) → reads_one d ts ≡ Ok (v, rest) → length rest < length ts
+one_takes (the_symbol i) ts v rest e = reads_take 0 i ts v rest e
 
--- the declarations so far, and those that are still to be read
-abbrev pub more_of : (i : Nonterminal) → List (ValueOf i) → List Token → Outcome Token (List (ValueOf i))
-more_of i vs ts = reads_more 0 (Symbol i) (λ v. v) vs ts
+pub further_turn : {X : Type 0} (d : SymbolOf X) (vs : List X) (ts : List Token) → starts_with kind_of (begins_as d) ts ≡ true → reads_further d vs ts ≡ (reads_one d ts >>= λ x. reads_further d (vs ++ x.0 ∷ []) x.1)
+further_turn (the_symbol i) vs ts h = each_turn 0 i vs ts h
 
-pub each_turn : (i : Nonterminal) (vs : List (ValueOf i)) (ts : List Token) → starts_with kind_of (begins i) ts ≡ true → more_of i vs ts ≡ (reads 0 i ts >>= λ x. more_of i (vs ++ x.0 ∷ []) x.1)
-each_turn i vs ts h = many_turn (Symbol i) refl refl refl (λ v. v) 0 vs ts h
-
-pub each_end : (i : Nonterminal) (vs : List (ValueOf i)) (ts : List Token) → starts_with kind_of (begins i) ts ≡ false → more_of i vs ts ≡ Ok (vs, ts)
-each_end i vs ts h = many_end (Symbol i) (λ v. v) 0 vs ts h
+pub further_end : {X : Type 0} (d : SymbolOf X) (vs : List X) (ts : List Token) → starts_with kind_of (begins_as d) ts ≡ false → reads_further d vs ts ≡ Ok (vs, ts)
+further_end (the_symbol i) vs ts h = each_end 0 i vs ts h
 
 abbrev with_word : {X : Type 0} → Token → List X × List Token → Outcome Token (Token × List X)
 with_word word x = Ok ((word, x.0), x.1)
@@ -41,11 +35,11 @@ all_behind_word : {X : Type 0} (o : Outcome Token Token) (m : List Token → Out
 all_behind_word (Ok w) m = all_behind w.0 (m w.1)
 all_behind_word (Err e) m = refl
 
-pub section_at : (word : Kind) (i : Nonterminal) (ts : List Token) → reads_as 0 (section word i) (λ x. x.1) ts ≡ (one_at 0 word ts >>= λ w. more_of i [] w.1)
-section_at word i ts = all_behind_word (one_at 0 word ts) (reads_part 0 (Many (Symbol i)))
+pub section_at : {X : Type 0} (d : SymbolOf X) (word : Kind) (ts : List Token) → reads_section d word ts ≡ (one_at 0 word ts >>= λ w. reads_further d [] w.1)
+section_at (the_symbol i) word ts = all_behind_word (one_at 0 word ts) (reads_part 0 (Many (Symbol i)))
 
-pub section_there : (word : Kind) (i : Nonterminal) (ts : List Token) → starts word ts ≡ true → reads_as 0 (Optional (section word i)) section_of ts ≡ (one_at 0 word ts >>= λ w. more_of i [] w.1)
-section_there word i ts h = rw h (bind_bind (reads_part 0 (section word i) ts) _ _ ∙ section_at word i ts)
+pub section_there : {X : Type 0} (d : SymbolOf X) (word : Kind) (ts : List Token) → starts (word ∷ []) ts ≡ true → reads_optional_section d word ts ≡ reads_section d word ts
+section_there (the_symbol i) word ts h = rw h (simp bind_bind)
 
-pub section_left_out : (word : Kind) (i : Nonterminal) (ts : List Token) → starts word ts ≡ false → reads_as 0 (Optional (section word i)) section_of ts ≡ Ok ([], ts)
-section_left_out word i ts h = rw h refl
+pub section_left_out : {X : Type 0} (d : SymbolOf X) (word : Kind) (ts : List Token) → starts (word ∷ []) ts ≡ false → reads_optional_section d word ts ≡ Ok ([], ts)
+section_left_out (the_symbol i) word ts h = rw h refl

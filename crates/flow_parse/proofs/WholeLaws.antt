@@ -10,22 +10,10 @@ use Rattle.grammar.specs.Texts.{Optional, Symbol}
 use Rattle.spec_grammar.proofs.Unrolled.{reads_at, one_at, bind_bind}
 use Rattle.spec_grammar.specs.Parts.{named}
 use Rattle.spec_grammar.specs.Reading.{reads, reads_all, reads_as, reads_part}
-use Rattle.spec_grammar.specs.Symbols.{Whole, ASignature, AnEnum, ATable, AFunction, AControlRule, AProperty, ARule, AMessage}
-use Rattle.spec_grammar.specs.Whole.{make_whole, section, section_of, sections_after_control, sections_after_sorts}
+use Rattle.spec_grammar.specs.Symbols.{Whole, ASignature, AnEnum}
+use Rattle.spec_grammar.specs.Whole.{make_whole, section, section_of, sections_after_sorts}
 use Rattle.spec_grammar.specs.declared.kind.Kind.TheVariants as kinds
-use Rattle.flow_parse.specs.Parts.{body_of, module_name, spec_of, tail_of}
-
-pub tail_at : (ts : List Token)
-    → reads_as 0 sections_after_control tail_of ts ≡ (reads_as 0 (Optional (section kinds.Properties AProperty)) section_of ts
-    >>= λ p. reads_as 0 (Optional (section kinds.Rules ARule)) section_of p.1 >>= λ r. reads_as 0 (Optional (section kinds.Messages AMessage)) section_of r.1
-    >>= λ m. one_at 0 kinds.EndOfText m.1 >>= λ e. Ok ((p.0, (r.0, m.0)), e.1))
-tail_at ts = simp bind_bind
-
-pub body_at : (ts : List Token)
-    → reads_as 0 sections_after_sorts body_of ts ≡ (reads_as 0 (Optional (section kinds.Lattices ATable)) section_of ts
-    >>= λ l. reads_as 0 (Optional (section kinds.Functions AFunction)) section_of l.1 >>= λ f. reads_as 0 (section kinds.Control AControlRule) (λ x. x.1) f.1
-    >>= λ c. reads_as 0 sections_after_control tail_of c.1 >>= λ t. Ok ((l.0, (f.0, (c.0, t.0))), t.1))
-body_at ts = simp bind_bind
+use Rattle.flow_parse.specs.Parts.{body_of, module_name, spec_of}
 
 -- what is made of the value that is read
 abbrev made : {X Y : Type 0} → (X → Y) → Outcome Token X → Outcome Token Y

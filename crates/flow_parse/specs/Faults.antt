@@ -26,10 +26,7 @@ pub record IsFaultAt (tokens : List Token) (place : ℕ) (cause : Cause) : Type 
   pub fault : IsFirstFault spec_syntax nesting_limit Whole tokens cause rest
   pub stands : place ≡ first_place rest
 
-abbrev pub kind_of_cause : Cause → ParseFaultKind
-kind_of_cause causes.Unexpected = told.Unexpected
-kind_of_cause causes.TooDeep = told.TooDeep
-
+-- the cause that a kind of fault tells
 abbrev pub cause_of : ParseFaultKind → Cause
 cause_of told.Unexpected = causes.Unexpected
 cause_of told.TooDeep = causes.TooDeep

@@ -4,6 +4,7 @@
 //! patterns and types have parsers of their own in the crates below.
 #![tactic(auto)]
 
+mod declaration;
 mod message;
 mod parser;
 mod refusal;

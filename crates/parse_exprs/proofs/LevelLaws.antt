@@ -6,7 +6,7 @@ use Rattle.grammar.specs.Choice.{first_kinds, is_decided}
 use Rattle.grammar.specs.Reading.{Outcome, ◌>>=◌, starts_with}
 use Rattle.grammar.specs.Texts.{Then, Optional, Symbol}
 use Rattle.grammar.specs.declared.Cause.{Cause}
-use Rattle.spec_grammar.proofs.Unrolled.{reads_at, one_at, one_of_at, bind_bind, reads_chain, chain_turn, chain_end}
+use Rattle.spec_grammar.proofs.Unrolled.{reads_at, one_at, one_of_at, bind_bind, bind_same, reads_chain, chain_turn, chain_end}
 use Rattle.spec_grammar.specs.Choice.{begins, continues}
 use Rattle.spec_grammar.specs.Expressions.{expr_after, conditional, make_conditional, binding, make_binding, operators_of, combined, make_negated, comparisons, make_signed, one_or_two, first_and_second, suffixed}
 use Rattle.spec_grammar.specs.Kinds.{kind_count, kind_of}
@@ -18,7 +18,7 @@ use Rattle.spec_grammar.specs.declared.kind.Kind.TheVariants as kinds
 use Rattle.spec_grammar.specs.declared.level.BinaryLevel.{BinaryLevel}
 use Rattle.spec_grammar.specs.declared.level.BinaryLevel.TheVariants.{Disjunction, Conjunction, SetOperation, Sum, Product}
 use Rattle.parse_exprs.specs.Entries.{operator_and_operand}
-use Rattle.parse_exprs.proofs.ChoiceLaws.{starts, bind_same}
+use Rattle.spec_grammar.proofs.Turns.{starts}
 
 -- ** an expression
 

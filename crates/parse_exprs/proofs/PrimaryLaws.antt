@@ -7,10 +7,11 @@ use Rattle.flow_syntax.specs.declared.token.Token.{Token}
 use Rattle.grammar.proofs.Composition.{ok_is}
 use Rattle.grammar.specs.Reading.{Outcome, ◌>>=◌}
 use Rattle.grammar.specs.Texts.{Many, Optional, Then}
-use Rattle.spec_grammar.proofs.Unrolled.{reads_at, reads_take, one_at, one_of_at, one_take, bind_bind, bind_on, reads_more, many_turn, many_end, reads_fold, fold_turn, fold_end}
+use Rattle.spec_grammar.proofs.Turns.{after_turn, more_after, starts, starts_with_two}
+use Rattle.spec_grammar.proofs.Unrolled.{reads_at, reads_take, one_at, one_of_at, one_take, bind_bind, bind_ok, bind_on, many_end, reads_fold, fold_turn}
 use Rattle.spec_grammar.specs.Expressions.{expr_after, expr_at, first_and_second, one_or_two}
 use Rattle.spec_grammar.specs.Kinds.{code_of, kind_of}
-use Rattle.spec_grammar.specs.Parts.{any_of, between, behind, behind_in, several, text_of, the}
+use Rattle.spec_grammar.specs.Parts.{any_of, between, behind, behind_in, second, several, text_of, the}
 use Rattle.spec_grammar.specs.Primaries.{applied, applied_to, applied_words, arguments_of, brace_parts, brace_rule, call_parts, called, comprehension, keys_of, literals, literal_of, make_applied, make_brace, make_map, make_named_expr, make_parenthesis, map_entry, map_rule, named_expr_rule, parenthesis_rule, parenthesised, set_of_parts, sides_of_node, values_of}
 use Rattle.spec_grammar.specs.Reading.{reads, reads_as, reads_part}
 use Rattle.spec_grammar.specs.Rules.{condition}
@@ -18,8 +19,7 @@ use Rattle.spec_grammar.specs.Symbols.{AnExpr, ALevel, APrimary, ANamedExpr, APa
 use Rattle.spec_grammar.specs.Choice.{beginnings}
 use Rattle.spec_grammar.specs.declared.kind.Kind.TheVariants as kinds
 use Rattle.spec_grammar.specs.declared.level.BinaryLevel.TheVariants.{Disjunction}
-use Rattle.parse_exprs.proofs.ChoiceLaws.{starts, bind_ok, starts_with_two}
-use Rattle.parse_exprs.specs.Entries.{chosen, further_entry, keys_and_values, second, with_entry, with_further_entry}
+use Rattle.parse_exprs.specs.Entries.{chosen, further_entry, keys_and_values, with_entry, with_further_entry}
 
 -- ** a primary
 
@@ -101,22 +101,14 @@ elements_chosen l ts e us o b =
     let two : starts (kinds.For ∷ kinds.Comma ∷ []) us ≡ true = starts_with_two kinds.For kinds.Comma us ∙ rw b refl in
     rw (o, two, b) (simp bind_bind)
 
--- the elements so far, and those that follow
-abbrev pub reads_elements : ℕ → List Expr → List Token → Outcome Token (List Expr)
-reads_elements l es ts = reads_more l (expr_after kinds.Comma) second es ts
-
-pub elements_turn : (l : ℕ) (es : List Expr) (ts : List Token) → starts (kinds.Comma ∷ []) ts ≡ true
-    → reads_elements l es ts ≡ (one_at l kinds.Comma ts >>= λ t. reads l AnExpr t.1 >>= λ x. reads_elements l (es ++ x.0 ∷ []) x.1)
-elements_turn l es ts h = many_turn (expr_after kinds.Comma) refl refl refl second l es ts h ∙ simp bind_bind
-
 pub elements_listed : (l : ℕ) (ts : List Token) (e : Expr) (us : List Token) → reads l AnExpr ts ≡ Ok (e, us) → starts (kinds.For ∷ []) us ≡ false
-    → reads_as l brace_parts set_of_parts ts ≡ (reads_elements l (e ∷ []) us >>= λ x. Ok (exprs.SetOf x.0, x.1))
+    → reads_as l brace_parts set_of_parts ts ≡ (more_after l kinds.Comma AnExpr (e ∷ []) us >>= λ x. Ok (exprs.SetOf x.0, x.1))
 elements_listed l ts e us o b = by_comma (starts (kinds.Comma ∷ []) us) refl
   where
-    by_comma : (d : Bool) → starts (kinds.Comma ∷ []) us ≡ d → reads_as l brace_parts set_of_parts ts ≡ (reads_elements l (e ∷ []) us >>= λ x. Ok (exprs.SetOf x.0, x.1))
+    by_comma : (d : Bool) → starts (kinds.Comma ∷ []) us ≡ d → reads_as l brace_parts set_of_parts ts ≡ (more_after l kinds.Comma AnExpr (e ∷ []) us >>= λ x. Ok (exprs.SetOf x.0, x.1))
     by_comma true d =
         let two : starts (kinds.For ∷ kinds.Comma ∷ []) us ≡ true = starts_with_two kinds.For kinds.Comma us ∙ rw (b, d) refl in
-        rw (o, two, b, elements_turn l (e ∷ []) us d) (simp bind_bind)
+        rw (o, two, b, after_turn l kinds.Comma AnExpr (e ∷ []) us (omega arith) d) (simp bind_bind)
     by_comma false d =
         let two : starts (kinds.For ∷ kinds.Comma ∷ []) us ≡ false = starts_with_two kinds.For kinds.Comma us ∙ rw (b, d) refl in
         rw (o, two, many_end (expr_after kinds.Comma) second l (e ∷ []) us d) refl
@@ -141,9 +133,6 @@ reads_entries l a ts = reads_fold l further_entry with_further_entry a ts
 pub entries_turn : (l : ℕ) (a : List Expr × List Expr) (ts : List Token) → starts (kinds.Comma ∷ []) ts ≡ true
     → reads_entries l a ts ≡ (one_at l kinds.Comma ts >>= λ t. reads_as l map_entry (with_entry a) t.1 >>= λ x. reads_entries l x.0 x.1)
 entries_turn l a ts h = fold_turn further_entry refl refl refl with_further_entry l a ts h ∙ simp bind_bind
-
-pub entries_end : (l : ℕ) (a : List Expr × List Expr) (ts : List Token) → starts (kinds.Comma ∷ []) ts ≡ false → reads_entries l a ts ≡ Ok (a, ts)
-entries_end l a ts h = fold_end further_entry with_further_entry l a ts h
 
 fold_entries : (xs : List (Token × (Expr × (Token × Expr)))) (ks vs : List Expr) → fold with_further_entry (ks, vs) xs ≡ (ks ++ keys_of (behind xs), vs ++ values_of (behind xs))
 fold_entries [] ks vs = rw (append-nil ks, append-nil vs) refl

@@ -12,10 +12,6 @@ use Rattle.spec_grammar.specs.Symbols.{Nonterminal, ValueOf, AnOperand}
 use Rattle.spec_grammar.specs.declared.kind.Kind.TheVariants as kinds
 use Rattle.spec_grammar.specs.declared.level.BinaryLevel.{BinaryLevel}
 
--- what stands behind a separator
-abbrev pub second : {X Y : Type 0} → X × Y → Y
-second x = x.1
-
 -- the keys and the values of a map's entries
 abbrev pub keys_and_values : Listing (Expr × (Token × Expr)) → List Expr × List Expr
 keys_and_values x = (keys_of (listed x), values_of (listed x))

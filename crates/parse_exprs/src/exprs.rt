@@ -11,7 +11,8 @@ ghost use Rattle.token_scan.specs.Gives.{Gives};
 
 use crate::builders::{binding_of, combined, conditional_of, negated_of, signed_of, suffixed};
 use crate::kinds::{
-    COMPARISONS, EXPR, NEGATION, OPPOSITE, PRIMARY, level_beginnings, operators_of,
+    COMPARISONS, EXPR, level_beginnings, negation_beginnings, operators_of, opposite_beginnings,
+    primary_beginnings,
 };
 use crate::primaries::primary;
 use flow_syntax::{Expr, Token};
@@ -170,7 +171,7 @@ fn negation<'a>(alloc: Global, cursor: Cursor<'a>, nesting: u64) -> Read<'a, Exp
     ensures { Gives (λ x. (x.0, x.1.tokens.now)) result (reads nesting ANegation cursor.entry.tokens.now) }
 {
     if nesting > LIMIT {
-        return Err(cursor.too_deep(&NEGATION));
+        return Err(cursor.too_deep(negation_beginnings()));
     }
     if cursor.begins(Kind::Not) {
         let (word, rest) = cursor.token(Kind::Not, nesting + 1)?;
@@ -188,7 +189,7 @@ fn comparison<'a>(alloc: Global, cursor: Cursor<'a>, nesting: u64) -> Read<'a, E
     ensures { Gives (λ x. (x.0, x.1.tokens.now)) result (reads nesting AComparison cursor.entry.tokens.now) }
 {
     if nesting > LIMIT {
-        return Err(cursor.too_deep(&OPPOSITE));
+        return Err(cursor.too_deep(opposite_beginnings()));
     }
     let (left, rest) = level_of(alloc, cursor, nesting, BinaryLevel::SetOperation)?;
     if !rest.begins_any(&COMPARISONS) {
@@ -208,7 +209,7 @@ fn opposite<'a>(alloc: Global, cursor: Cursor<'a>, nesting: u64) -> Read<'a, Exp
     ensures { Gives (λ x. (x.0, x.1.tokens.now)) result (reads nesting AnOpposite cursor.entry.tokens.now) }
 {
     if nesting > LIMIT {
-        return Err(cursor.too_deep(&OPPOSITE));
+        return Err(cursor.too_deep(opposite_beginnings()));
     }
     if cursor.begins(Kind::Dash) {
         let (sign, rest) = cursor.token(Kind::Dash, nesting + 1)?;
@@ -226,7 +227,7 @@ fn lookup<'a>(alloc: Global, cursor: Cursor<'a>, nesting: u64) -> Read<'a, Expr>
     ensures { Gives (λ x. (x.0, x.1.tokens.now)) result (reads nesting ALookup cursor.entry.tokens.now) }
 {
     if nesting > LIMIT {
-        return Err(cursor.too_deep(&PRIMARY));
+        return Err(cursor.too_deep(primary_beginnings()));
     }
     let (mut whole, mut rest) = primary(alloc, cursor, nesting)?;
     let mut deeper = nesting;

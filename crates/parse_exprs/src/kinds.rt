@@ -1,11 +1,11 @@
 //! The kinds of token by which the parser of expressions chooses.
 ghost use Rattle.std.specs.Prelude.{◌≡◌};
-ghost use Rattle.spec_grammar.specs.Choice.{level_beginnings};
+ghost use Rattle.spec_grammar.specs.Choice.{level_beginnings, negations, opposites, primaries};
 ghost use Rattle.spec_grammar.specs.Expressions.{operators_of};
 
 use spec_grammar::{BinaryLevel, Kind};
 
-/// The kinds of token with which an expression begins.
+/// The kinds of token with which an expression begins. What binds more tightly begins with fewer of them: with those from some row on.
 pub const EXPR: [Kind; 18] = [
     Kind::If,
     Kind::Bind,
@@ -28,61 +28,25 @@ pub const EXPR: [Kind; 18] = [
 ];
 
 /// Those with which an expression with `not` begins.
-pub const NEGATION: [Kind; 16] = [
-    Kind::Not,
-    Kind::Dash,
-    Kind::Number,
-    Kind::Quoted,
-    Kind::True,
-    Kind::False,
-    Kind::Bottom,
-    Kind::Top,
-    Kind::Unreached,
-    Kind::MakeFlat,
-    Kind::Fst,
-    Kind::Snd,
-    Kind::Identifier,
-    Kind::OpenRound,
-    Kind::OpenBrace,
-    Kind::OpenSquare,
-];
+pub fn negation_beginnings() -> &'static [Kind]
+    ensures { result.now ≡ negations }
+{
+    &EXPR[2..]
+}
 
 /// Those with which a signed value begins.
-pub const OPPOSITE: [Kind; 15] = [
-    Kind::Dash,
-    Kind::Number,
-    Kind::Quoted,
-    Kind::True,
-    Kind::False,
-    Kind::Bottom,
-    Kind::Top,
-    Kind::Unreached,
-    Kind::MakeFlat,
-    Kind::Fst,
-    Kind::Snd,
-    Kind::Identifier,
-    Kind::OpenRound,
-    Kind::OpenBrace,
-    Kind::OpenSquare,
-];
+pub fn opposite_beginnings() -> &'static [Kind]
+    ensures { result.now ≡ opposites }
+{
+    &EXPR[3..]
+}
 
 /// Those with which a value without a sign begins.
-pub const PRIMARY: [Kind; 14] = [
-    Kind::Number,
-    Kind::Quoted,
-    Kind::True,
-    Kind::False,
-    Kind::Bottom,
-    Kind::Top,
-    Kind::Unreached,
-    Kind::MakeFlat,
-    Kind::Fst,
-    Kind::Snd,
-    Kind::Identifier,
-    Kind::OpenRound,
-    Kind::OpenBrace,
-    Kind::OpenSquare,
-];
+pub fn primary_beginnings() -> &'static [Kind]
+    ensures { result.now ≡ primaries }
+{
+    &EXPR[4..]
+}
 
 /// The operators of comparisons.
 pub const COMPARISONS: [Kind; 5] = [
@@ -115,11 +79,11 @@ pub fn level_beginnings(level: BinaryLevel) -> &'static [Kind]
     ensures { result.now ≡ level_beginnings level }
 {
     match level {
-        BinaryLevel::Disjunction => &NEGATION,
-        BinaryLevel::Conjunction => &NEGATION,
-        BinaryLevel::SetOperation => &OPPOSITE,
-        BinaryLevel::Sum => &OPPOSITE,
-        BinaryLevel::Product => &OPPOSITE,
+        BinaryLevel::Disjunction => negation_beginnings(),
+        BinaryLevel::Conjunction => negation_beginnings(),
+        BinaryLevel::SetOperation => opposite_beginnings(),
+        BinaryLevel::Sum => opposite_beginnings(),
+        BinaryLevel::Product => opposite_beginnings(),
     }
 }
 

@@ -2,10 +2,10 @@
 ghost use Rattle.std.specs.Prelude.{◌≤◌};
 ghost use Rattle.flow_syntax.specs.declared.expr.ExprKind.TheVariants.{Both};
 ghost use Rattle.grammar.specs.Texts.{Then};
-ghost use Rattle.parse_exprs.specs.Entries.{chosen, further_entry, keys_and_values, second, with_entry, with_further_entry};
+ghost use Rattle.parse_exprs.specs.Entries.{chosen, further_entry, keys_and_values, with_entry, with_further_entry};
 ghost use Rattle.spec_grammar.proofs.Unrolled.{reads_fold, reads_more};
 ghost use Rattle.spec_grammar.specs.Expressions.{expr_after, expr_at, first_and_second, one_or_two};
-ghost use Rattle.spec_grammar.specs.Parts.{any_of, behind_in, between, several, the};
+ghost use Rattle.spec_grammar.specs.Parts.{any_of, behind_in, between, second, several, the};
 ghost use Rattle.spec_grammar.specs.Primaries.{applied, arguments_of, brace_parts, brace_rule, call_parts, called, comprehension, literal_of, literals, make_applied, make_brace, make_map, make_named_expr, make_parenthesis, map_entry, map_rule, named_expr_rule, parenthesis_rule, set_of_parts};
 ghost use Rattle.spec_grammar.specs.Reading.{reads, reads_as};
 ghost use Rattle.spec_grammar.specs.Rules.{condition};
@@ -15,7 +15,7 @@ ghost use Rattle.token_scan.specs.Gives.{Gives};
 
 use crate::builders::{applied_to, literal_of, one_element, side_of};
 use crate::exprs::{expr, expr_after, level_of, optional_after};
-use crate::kinds::{APPLIED, EXPR, LITERALS, PRIMARY, SIDES};
+use crate::kinds::{APPLIED, EXPR, LITERALS, SIDES, primary_beginnings};
 use flow_syntax::{Expr, ExprKind};
 use flow_term::{Boxed, List, Text};
 use spec_grammar::{BinaryLevel, Kind};
@@ -29,7 +29,7 @@ pub fn primary<'a>(alloc: Global, cursor: Cursor<'a>, nesting: u64) -> Read<'a, 
     ensures { Gives (λ x. (x.0, x.1.tokens.now)) result (reads nesting APrimary cursor.entry.tokens.now) }
 {
     if nesting > LIMIT {
-        return Err(cursor.too_deep(&PRIMARY));
+        return Err(cursor.too_deep(primary_beginnings()));
     }
     if cursor.begins_any(&LITERALS) {
         return literal(alloc, cursor, nesting);

@@ -1,17 +1,17 @@
 -- How each pattern is read, branch by branch.
-use Rattle.std.proofs.Common.{◌≡◌, ℕ, suc, ◌+◌, ◌≤◌, ◌<◌, ◌||◌, Bool, true, false, List, [], ◌∷◌, ◌++◌, Ok, Err, refl, sym, ap, ◌∙◌, add-one, map, arith, zero, eqb-true, w64, to_z, of_z}
+use Rattle.std.proofs.Common.{◌≡◌, ℕ, suc, ◌+◌, ◌≤◌, ◌<◌, ◌||◌, Bool, true, false, List, [], ◌∷◌, Ok, refl, sym, ap, ◌∙◌, add-one, arith, zero, eqb-true, w64, to_z, of_z}
 use Rattle.std.specs.Prelude.{ℤ, pos, negsuc, neg_ℤ, ◌-ℤ◌, ◌==◌, nat_le, FitsSigned}
 use Rattle.std.proofs.Math.IntN.{+ℤ_idl}
 use Rattle.std.proofs.lemmas.Int.{to_z-of_z, fits_signed_from_abs}
-use Rattle.flow_syntax.specs.declared.pattern.Pattern.{Pattern}
 use Rattle.flow_syntax.specs.declared.pattern.PatternKind.TheVariants as patterns
 use Rattle.flow_syntax.specs.declared.token.Token.{Token}
 use Rattle.flow_syntax.specs.declared.token.TokenKind.{TokenKind}
 use Rattle.flow_syntax.specs.declared.token.TokenKind.TheVariants as tokens
 use Rattle.grammar.proofs.Composition.{ok_one}
-use Rattle.grammar.specs.Reading.{Outcome, ◌>>=◌, starts_with}
+use Rattle.grammar.specs.Reading.{◌>>=◌}
 use Rattle.grammar.specs.Texts.{member, Optional, Then, Symbol}
-use Rattle.spec_grammar.proofs.Unrolled.{reads_at, one_at, bind_bind, reads_more, many_turn}
+use Rattle.spec_grammar.proofs.Turns.{starts, starts_with_two}
+use Rattle.spec_grammar.proofs.Unrolled.{reads_at, one_at, bind_bind, bind_same}
 use Rattle.spec_grammar.specs.Kinds.{code_of, kind_of, kind_named, number_kind}
 use Rattle.spec_grammar.specs.Parts.{identifier, text_of, number_of, number_in, listed_in}
 use Rattle.spec_grammar.specs.Patterns.{pattern_at, application_of, pattern_list, after_identifier, identifier_pattern, sorted_variable, negative_number, quoted_pattern}
@@ -19,14 +19,7 @@ use Rattle.spec_grammar.specs.Reading.{reads, reads_as}
 use Rattle.spec_grammar.specs.Symbols.{APattern, AFirmPattern, AnUnnamedPattern, PatternArguments}
 use Rattle.spec_grammar.specs.declared.kind.Kind.{Kind}
 use Rattle.spec_grammar.specs.declared.kind.Kind.TheVariants as kinds
-use Rattle.parse_patterns.specs.Parts.{behind, bracketed, placed, quoted, second, sorted_of, negative_of, tuple_at, items_at}
-
-abbrev pub starts : List Kind → List Token → Bool
-starts ks ts = starts_with kind_of (map code_of ks) ts
-
-bind_same : {A T : Type 0} → (o : Outcome T A) → (o >>= λ x. Ok (x.0, x.1)) ≡ o
-bind_same (Ok x) = refl
-bind_same (Err e) = refl
+use Rattle.parse_patterns.specs.Parts.{bracketed, placed, quoted, sorted_of, negative_of, tuple_at, items_at}
 
 -- ** a pattern
 
@@ -41,12 +34,6 @@ pattern_named l ts h b d = reads_at l APattern ts h ∙ rw (b, d) (simp bind_bin
 pub pattern_unnamed : (l : ℕ) (ts : List Token) → l ≤ 256 → starts (kinds.Underscore ∷ []) ts ≡ false → starts (kinds.Identifier ∷ []) ts ≡ false
     → reads l APattern ts ≡ reads l AnUnnamedPattern ts
 pattern_unnamed l ts h b d = reads_at l APattern ts h ∙ rw (b, d) (simp bind_bind (bind_same (reads l AnUnnamedPattern ts)))
-
--- ** further patterns
-
-pub more_patterns : (l : ℕ) (ys : List Pattern) (ts : List Token) → starts (kinds.Comma ∷ []) ts ≡ true
-    → reads_more l (behind kinds.Comma APattern) second ys ts ≡ (one_at l kinds.Comma ts >>= λ t. reads l APattern t.1 >>= λ x. reads_more l (behind kinds.Comma APattern) second (ys ++ x.0 ∷ []) x.1)
-more_patterns l ys ts h = many_turn (behind kinds.Comma APattern) refl refl refl second l ys ts h ∙ simp bind_bind
 
 -- ** a pattern behind `@`
 
@@ -97,14 +84,6 @@ pub bracketed_at : (opening closing : Kind) (l : ℕ) (ts : List Token)
 bracketed_at opening closing l ts = rw add-one (simp bind_bind)
 
 -- ** what follows an identifier
-
-starts_with_two : (a b : Kind) (ts : List Token) → starts (a ∷ b ∷ []) ts ≡ (starts (a ∷ []) ts || starts (b ∷ []) ts)
-starts_with_two a b [] = refl
-starts_with_two a b (t ∷ ts) = either (kind_of t == code_of a) (kind_of t == code_of b)
-  where
-    either : (x y : Bool) → (x || (y || false)) ≡ ((x || false) || (y || false))
-    either true y = refl
-    either false y = refl
 
 pub held_at : (l : ℕ) (ts : List Token) (t : Token) (us : List Token) → one_at l kinds.Identifier ts ≡ Ok (t, us) → starts (kinds.OpenRound ∷ []) us ≡ false → starts (kinds.At ∷ []) us ≡ true
     → reads_as l (Then identifier (Optional after_identifier)) (λ x. identifier_pattern x.0 x.1) ts

@@ -1,11 +1,9 @@
 -- How control rules and triggers are read, branch by branch.
-use Rattle.std.proofs.Common.{◌≡◌, ℕ, ◌≤◌, true, false, List, [], ◌∷◌, ◌++◌, refl, ◌∙◌}
-use Rattle.flow_syntax.specs.declared.rule.Chain.{Chain}
-use Rattle.flow_syntax.specs.declared.rule.Item.{Item}
+use Rattle.std.proofs.Common.{◌≡◌, ℕ, ◌≤◌, true, false, List, [], ◌∷◌, ◌∙◌}
 use Rattle.flow_syntax.specs.declared.token.Token.{Token}
-use Rattle.grammar.specs.Reading.{◌>>=◌}
 use Rattle.grammar.specs.Texts.{Symbol, Then}
-use Rattle.spec_grammar.proofs.Unrolled.{reads_at, one_at, bind_bind, reads_more, many_turn}
+use Rattle.spec_grammar.proofs.Turns.{starts}
+use Rattle.spec_grammar.proofs.Unrolled.{reads_at, bind_bind}
 use Rattle.spec_grammar.specs.Control.{chain_rule, chains_rule, make_chain, node_rule, plain_item}
 use Rattle.spec_grammar.specs.Parts.{constructor_name}
 use Rattle.spec_grammar.specs.Patterns.{application_of}
@@ -13,8 +11,6 @@ use Rattle.spec_grammar.specs.Reading.{reads, reads_as}
 use Rattle.spec_grammar.specs.Symbols.{AChain, AControlRule, AHead, AnItem, ATrigger, PatternArguments}
 use Rattle.spec_grammar.specs.declared.kind.Kind.{Kind}
 use Rattle.spec_grammar.specs.declared.kind.Kind.TheVariants as kinds
-use Rattle.parse_patterns.proofs.PatternLaws.{starts}
-use Rattle.parse_patterns.specs.Parts.{behind, second}
 use Rattle.parse_patterns.specs.Rules.{chains_rule_of, forward_of, forward_trigger, node_item, node_item_of, node_rule_of, other_of, other_trigger, plain_item_at}
 
 abbrev pub plain_items : List Kind
@@ -43,13 +39,3 @@ trigger_forward l ts h b = reads_at l ATrigger ts h ∙ rw b (simp bind_bind)
 
 pub trigger_other : (l : ℕ) (ts : List Token) → l ≤ 256 → starts (kinds.Prev ∷ []) ts ≡ false → reads l ATrigger ts ≡ reads_as l other_trigger other_of ts
 trigger_other l ts h b = reads_at l ATrigger ts h ∙ rw b (simp bind_bind)
-
--- ** further items and chains
-
-pub more_items : (l : ℕ) (ys : List Item) (ts : List Token) → starts (kinds.Arrow ∷ []) ts ≡ true
-    → reads_more l (behind kinds.Arrow AnItem) second ys ts ≡ (one_at l kinds.Arrow ts >>= λ t. reads l AnItem t.1 >>= λ x. reads_more l (behind kinds.Arrow AnItem) second (ys ++ x.0 ∷ []) x.1)
-more_items l ys ts h = many_turn (behind kinds.Arrow AnItem) refl refl refl second l ys ts h ∙ simp bind_bind
-
-pub more_chains : (l : ℕ) (ys : List Chain) (ts : List Token) → starts (kinds.Comma ∷ []) ts ≡ true
-    → reads_more l (behind kinds.Comma AChain) second ys ts ≡ (one_at l kinds.Comma ts >>= λ t. reads l AChain t.1 >>= λ x. reads_more l (behind kinds.Comma AChain) second (ys ++ x.0 ∷ []) x.1)
-more_chains l ys ts h = many_turn (behind kinds.Comma AChain) refl refl refl second l ys ts h ∙ simp bind_bind

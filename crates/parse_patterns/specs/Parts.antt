@@ -30,13 +30,6 @@ negative_of x = pattern_at x.0 (patterns.IntLit (neg_ℤ (number_of x.1)))
 abbrev pub placed : Token × (Option (Listing Pattern) × Token) → ℕ × List Pattern
 placed x = (x.0.place, listed_in (inside x))
 
--- a symbol behind a separator
-abbrev pub behind : Kind → Nonterminal → Part Nonterminal
-behind separator i = Then (the separator) (Symbol i)
-
-abbrev pub second : {X Y : Type 0} → X × Y → Y
-second x = x.1
-
 -- a pattern of a tuple, and one of a list, at the place of its bracket
 abbrev pub tuple_at : ℕ → List Pattern → Pattern
 tuple_at place parts = roll-Pattern (record { place = place; kind = patterns.Tuple parts })

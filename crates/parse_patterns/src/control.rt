@@ -2,12 +2,11 @@ ghost use Rattle.std.specs.Prelude.{◌≡◌, ◌≤◌, ◌∷◌, [], IfOk};
 ghost use Rattle.grammar.specs.Texts.{Optional};
 ghost use Rattle.spec_grammar.proofs.Unrolled.{reads_more};
 ghost use Rattle.spec_grammar.specs.Control.{chain_rule, chains_rule, make_chain, node_chain, node_rule, plain_item};
-ghost use Rattle.spec_grammar.specs.Parts.{the};
+ghost use Rattle.spec_grammar.specs.Parts.{second, symbol_after, the};
 ghost use Rattle.spec_grammar.specs.Reading.{reads, reads_as};
 ghost use Rattle.spec_grammar.specs.Symbols.{AChain, AControlRule, AHead, AnItem};
 ghost use Rattle.spec_grammar.specs.declared.kind.Kind.TheVariants as kinds;
 ghost use Rattle.token_scan.specs.Gives.{Gives};
-ghost use Rattle.parse_patterns.specs.Parts.{behind, second};
 ghost use Rattle.parse_patterns.specs.Rules.{chains_behind, chains_in, chains_rule_of, node_item, node_item_of, node_rule_of, plain_item_at, root_place};
 
 use crate::pattern::read_application;
@@ -153,7 +152,7 @@ fn read_more_chains<'a>(
     nesting: u64,
 ) -> Read<'a, List<Chain>>
     requires { nesting ≤ 256 }
-    ensures { Gives (λ x. (x.0, x.1.tokens.now)) result (reads_more nesting (behind kinds.Comma AChain) second chains cursor.entry.tokens.now) }
+    ensures { Gives (λ x. (x.0, x.1.tokens.now)) result (reads_more nesting (symbol_after kinds.Comma AChain) second chains cursor.entry.tokens.now) }
 {
     let mut rest = cursor;
     while rest.begins(Kind::Comma) {
@@ -199,7 +198,7 @@ fn read_more_items<'a>(
     nesting: u64,
 ) -> Read<'a, List<Item>>
     requires { nesting ≤ 256 }
-    ensures { Gives (λ x. (x.0, x.1.tokens.now)) result (reads_more nesting (behind kinds.Arrow AnItem) second items cursor.entry.tokens.now) }
+    ensures { Gives (λ x. (x.0, x.1.tokens.now)) result (reads_more nesting (symbol_after kinds.Arrow AnItem) second items cursor.entry.tokens.now) }
 {
     let mut rest = cursor;
     while rest.begins(Kind::Arrow) {

@@ -5,6 +5,7 @@
 #![tactic(auto)]
 
 mod control;
+mod kinds;
 mod pattern;
 mod trigger;
 

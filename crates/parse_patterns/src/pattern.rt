@@ -1,56 +1,21 @@
 ghost use Rattle.std.specs.Prelude.{◌≡◌, ◌≤◌, ◌∷◌, [], map};
 ghost use Rattle.grammar.specs.Texts.{Nested, One, Optional, Symbol, Then};
 ghost use Rattle.spec_grammar.specs.Kinds.{code_of};
-ghost use Rattle.spec_grammar.specs.Parts.{identifier, listed_in};
+ghost use Rattle.spec_grammar.specs.Parts.{identifier, listed_in, second, symbol_after};
 ghost use Rattle.spec_grammar.specs.Patterns.{after_identifier, application_of, identifier_pattern, negative_number, pattern_at, pattern_list, quoted_pattern, sorted_variable};
 ghost use Rattle.spec_grammar.specs.Reading.{reads, reads_as};
 ghost use Rattle.spec_grammar.proofs.Unrolled.{reads_more};
 ghost use Rattle.spec_grammar.specs.Symbols.{APattern, AFirmPattern, AnUnnamedPattern, PatternArguments};
 ghost use Rattle.spec_grammar.specs.declared.kind.Kind.TheVariants as kinds;
 ghost use Rattle.token_scan.specs.Gives.{Gives};
-ghost use Rattle.parse_patterns.specs.Parts.{behind, bracketed, second, negative_of, placed, quoted, sorted_of};
+ghost use Rattle.parse_patterns.specs.Parts.{bracketed, negative_of, placed, quoted, sorted_of};
 
+use crate::kinds::{PATTERNS, firm_pattern_beginnings, unnamed_pattern_beginnings};
 use flow_syntax::{Pattern, PatternKind, Token};
 use flow_term::{Boxed, List};
 use spec_grammar::Kind;
 use std::alloc::Global;
 use token_scan::{Cursor, LIMIT, Read, number_of, text_of};
-
-const UNNAMED_PATTERNS: [Kind; 8] = [
-    Kind::Name,
-    Kind::Str,
-    Kind::Int,
-    Kind::Number,
-    Kind::Dash,
-    Kind::Quoted,
-    Kind::OpenRound,
-    Kind::OpenSquare,
-];
-
-const FIRM_PATTERNS: [Kind; 9] = [
-    Kind::Identifier,
-    Kind::Name,
-    Kind::Str,
-    Kind::Int,
-    Kind::Number,
-    Kind::Dash,
-    Kind::Quoted,
-    Kind::OpenRound,
-    Kind::OpenSquare,
-];
-
-const PATTERNS: [Kind; 10] = [
-    Kind::Underscore,
-    Kind::Identifier,
-    Kind::Name,
-    Kind::Str,
-    Kind::Int,
-    Kind::Number,
-    Kind::Dash,
-    Kind::Quoted,
-    Kind::OpenRound,
-    Kind::OpenSquare,
-];
 
 /// A pattern.
 #[cycle(pattern)]
@@ -109,7 +74,7 @@ fn read_firm_pattern<'a>(alloc: Global, cursor: Cursor<'a>, nesting: u64) -> Rea
     ensures { Gives (λ x. (x.0, x.1.tokens.now)) result (reads nesting AFirmPattern cursor.entry.tokens.now) }
 {
     if nesting > LIMIT {
-        return Err(cursor.too_deep(&FIRM_PATTERNS));
+        return Err(cursor.too_deep(firm_pattern_beginnings()));
     }
     if cursor.begins(Kind::Identifier) {
         return read_application(alloc, cursor, nesting, &[Kind::Identifier]);
@@ -141,7 +106,7 @@ fn read_unnamed_pattern<'a>(alloc: Global, cursor: Cursor<'a>, nesting: u64) -> 
     ensures { Gives (λ x. (x.0, x.1.tokens.now)) result (reads nesting AnUnnamedPattern cursor.entry.tokens.now) }
 {
     if nesting > LIMIT {
-        return Err(cursor.too_deep(&UNNAMED_PATTERNS));
+        return Err(cursor.too_deep(unnamed_pattern_beginnings()));
     }
     if cursor.begins_any(&[Kind::Name, Kind::Str, Kind::Int]) {
         return read_sorted_variable(alloc, cursor, nesting);
@@ -158,11 +123,23 @@ fn read_unnamed_pattern<'a>(alloc: Global, cursor: Cursor<'a>, nesting: u64) -> 
         return read_quoted_pattern(alloc, cursor, nesting);
     }
     if cursor.begins(Kind::OpenRound) {
-        let ((place, parts), rest) = read_round(alloc, cursor, nesting)?;
+        let ((place, parts), rest) = read_bracketed(
+            alloc,
+            cursor,
+            nesting,
+            Kind::OpenRound,
+            Kind::CloseRound,
+        )?;
         let kind = PatternKind::Tuple(parts);
         return Ok((Pattern { place, kind }, rest));
     }
-    let ((place, items), rest) = read_square(alloc, cursor, nesting)?;
+    let ((place, items), rest) = read_bracketed(
+        alloc,
+        cursor,
+        nesting,
+        Kind::OpenSquare,
+        Kind::CloseSquare,
+    )?;
     let kind = PatternKind::Items(items);
     Ok((Pattern { place, kind }, rest))
 }
@@ -229,28 +206,6 @@ fn read_arguments<'a>(alloc: Global, cursor: Cursor<'a>, nesting: u64) -> Read<'
     Ok((parts, rest))
 }
 
-/// Patterns in parentheses.
-#[cycle(pattern)]
-fn read_round<'a>(alloc: Global, cursor: Cursor<'a>, nesting: u64) -> Read<'a, (u64, List<Pattern>)>
-    requires { nesting ≤ 256 }
-    ensures { Gives (λ x. (x.0, x.1.tokens.now)) result (reads_as nesting (bracketed kinds.OpenRound kinds.CloseRound) placed cursor.entry.tokens.now) }
-{
-    read_bracketed(alloc, cursor, nesting, Kind::OpenRound, Kind::CloseRound)
-}
-
-/// Patterns in square brackets.
-#[cycle(pattern)]
-fn read_square<'a>(
-    alloc: Global,
-    cursor: Cursor<'a>,
-    nesting: u64,
-) -> Read<'a, (u64, List<Pattern>)>
-    requires { nesting ≤ 256 }
-    ensures { Gives (λ x. (x.0, x.1.tokens.now)) result (reads_as nesting (bracketed kinds.OpenSquare kinds.CloseSquare) placed cursor.entry.tokens.now) }
-{
-    read_bracketed(alloc, cursor, nesting, Kind::OpenSquare, Kind::CloseSquare)
-}
-
 /// An opening token, patterns with commas between them, and the closing token.
 #[cycle(pattern)]
 fn read_bracketed<'a>(
@@ -293,7 +248,7 @@ fn read_more_patterns<'a>(
     nesting: u64,
 ) -> Read<'a, List<Pattern>>
     requires { nesting ≤ 257 }
-    ensures { Gives (λ x. (x.0, x.1.tokens.now)) result (reads_more nesting (behind kinds.Comma APattern) second patterns cursor.entry.tokens.now) }
+    ensures { Gives (λ x. (x.0, x.1.tokens.now)) result (reads_more nesting (symbol_after kinds.Comma APattern) second patterns cursor.entry.tokens.now) }
 {
     let mut rest = cursor;
     while rest.begins(Kind::Comma) {

@@ -5,25 +5,12 @@ ghost use Rattle.spec_grammar.specs.Symbols.{ATrigger};
 ghost use Rattle.token_scan.specs.Gives.{Gives};
 ghost use Rattle.parse_patterns.specs.Rules.{forward_of, forward_trigger, other_of, other_trigger};
 
+use crate::kinds::TRIGGERS;
 use crate::pattern::read_pattern;
 use flow_syntax::{Pattern, Trigger};
 use spec_grammar::Kind;
 use std::alloc::Global;
 use token_scan::{Cursor, LIMIT, Read};
-
-const TRIGGERS: [Kind; 11] = [
-    Kind::Prev,
-    Kind::Underscore,
-    Kind::Identifier,
-    Kind::Name,
-    Kind::Str,
-    Kind::Int,
-    Kind::Number,
-    Kind::Dash,
-    Kind::Quoted,
-    Kind::OpenRound,
-    Kind::OpenSquare,
-];
 
 /// The trigger of a rule of a property: the pattern, and which neighbours the rule reads or whether it's for start or end nodes.
 pub fn read_trigger<'a>(alloc: Global, cursor: Cursor<'a>, nesting: u64) -> Read<'a, Trigger>

@@ -1,5 +1,5 @@
 -- The grammar is decided by one token of choice.
-use Rattle.std.proofs.Common.{◌≡◌, ℕ, zero, suc, ◌+◌, ◌<◌, ◌&&◌, Bool, true, false, List, [], ◌∷◌, length, refl, sym, ◌∙◌, arith}
+use Rattle.std.proofs.Common.{◌≡◌, ℕ, zero, suc, ◌+◌, ◌<◌, ◌&&◌, Bool, true, false, List, [], ◌∷◌, length, refl, ◌∙◌, arith}
 use Rattle.std.specs.Prelude.{◌==◌, nat_lt, codes, pos}
 use Rattle.std.proofs.lemmas.Bool.Decides.{nat_tests}
 use Rattle.flow_syntax.specs.declared.token.Token.{Token}
@@ -9,10 +9,10 @@ use Rattle.grammar.specs.Choice.{Decided, is_decided, is_inside, is_headed, may_
 use Rattle.grammar.proofs.Composition.{both}
 use Rattle.spec_grammar.specs.Choice.{begins, continues, rank_of, rank_count}
 use Rattle.spec_grammar.specs.Kinds.{kind_of, kind_count}
-use Rattle.spec_grammar.specs.Symbols.{Nonterminal, ValueOf, Whole, ASignature, AConstructor, ATreeSort, AnEnum, ATable, AFunction, AControlRule, AHead, AChain, AnItem, AProperty, AType, AnElemSort, ARule, ATrigger, AMessage, APattern, AFirmPattern, AnUnnamedPattern, PatternArguments, AnExpr, ANegation, AComparison, AnOpposite, ALookup, ASuffix, APrimary, ANamedExpr, AParenthesis, ABrace, AMap, ALevel, AnOperand}
+use Rattle.spec_grammar.specs.Symbols.{Nonterminal, Whole, ASignature, AConstructor, ATreeSort, AnEnum, ATable, AFunction, AControlRule, AHead, AChain, AnItem, AProperty, AType, AnElemSort, ARule, ATrigger, AMessage, APattern, AFirmPattern, AnUnnamedPattern, PatternArguments, AnExpr, ANegation, AComparison, AnOpposite, ALookup, ASuffix, APrimary, ANamedExpr, AParenthesis, ABrace, AMap, ALevel, AnOperand}
 use Rattle.spec_grammar.specs.Syntax.{rule, spec_syntax}
 use Rattle.spec_grammar.specs.declared.level.BinaryLevel.TheVariants.{Disjunction, Conjunction, SetOperation, Sum, Product}
-use Rattle.spec_grammar.proofs.Samples.{has_sample, HasText, some_text}
+use Rattle.spec_grammar.proofs.Samples.{has_sample, some_text}
 
 -- ** a token of each kind
 

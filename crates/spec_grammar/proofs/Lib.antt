@@ -1,4 +1,6 @@
 pub mod Checks
+pub mod Listings
 pub mod Samples
+pub mod Turns
 pub mod Unrolled
 pub mod Wholes

@@ -1,5 +1,5 @@
 -- Each symbol is read by its production, and each list and chain turn by turn.
-use Rattle.std.proofs.Common.{◌≡◌, ℕ, suc, ◌+◌, ◌<◌, ◌≤◌, Bool, true, false, List, [], ◌∷◌, ◌++◌, length, Result, Ok, Err, refl, sym, ap, ◌∙◌, add-one, append_assoc, append-nil, arith}
+use Rattle.std.proofs.Common.{◌≡◌, ℕ, suc, ◌+◌, ◌<◌, ◌≤◌, true, false, List, [], ◌∷◌, ◌++◌, length, Result, Ok, Err, refl, sym, ap, ◌∙◌, add-one, append_assoc, append-nil, arith}
 use Rattle.std.specs.Prelude.{nat_le, map, fold}
 use Rattle.flow_syntax.specs.declared.token.Token.{Token}
 use Rattle.grammar.proofs.Composition.{repeat_end, ok_one}
@@ -49,6 +49,16 @@ pub bind_on : {A B E : Type 0} (o : Result A E) (f g : A → Result B E) → ((x
 bind_on (Ok x) f g h = h x
 bind_on (Err d) f g h = refl
 
+-- what is read as it is
+pub bind_same : {A T : Type 0} → (o : Outcome T A) → (o >>= λ x. Ok (x.0, x.1)) ≡ o
+bind_same (Ok x) = refl
+bind_same (Err e) = refl
+
+-- a value comes from the values of the parts
+pub bind_ok : {A B E : Type 0} (o : Result A E) (f : A → Result B E) (y : B) → (o >>= f) ≡ Ok y → (x : A) × (o ≡ Ok x) × (f x ≡ Ok y)
+bind_ok (Ok x) f y h = (x, refl, h)
+bind_ok (Err e) f y h = absurd cc
+
 -- ** lists: the items so far, and those that are still to be read
 
 abbrev pub added : {X Y : Type 0} → (X → Y) → List Y → List X × List Token → Outcome Token (List Y)
@@ -82,9 +92,6 @@ pub fold_turn : {A : Type 0} (p : Part Nonterminal) → is_decided kind_count be
 unfolding reads checks
 fold_turn p d i full g l a ts h = ap (λ o. o >>= folded g a) (turn_law spec_syntax begins continues checks 256 p d i full (λ n. n) l ts h)
     ∙ bind_bind (reads_part l p ts) _ _ ∙ bind_on (reads_part l p ts) _ _ (λ x. bind_bind (reads_part l (Many p) x.1) _ _)
-
-pub fold_end : {A : Type 0} (p : Part Nonterminal) (g : A → PartValue Token ValueOf p → A) (l : ℕ) (a : A) (ts : List Token) → starts_with kind_of (first_kinds begins p) ts ≡ false → reads_fold l p g a ts ≡ Ok (a, ts)
-fold_end p g l a ts h = ap (λ o. o >>= folded g a) (repeat_end kind_of (first_kinds begins p) (λ n. n) (λ n. reads_part n p) (length ts) l ts h)
 
 -- each turn of a chain is one deeper
 abbrev pub reads_chain : {A : Type 0} → ℕ → (p : Part Nonterminal) → (A → PartValue Token ValueOf p → A) → A → List Token → Outcome Token A

@@ -1,5 +1,5 @@
 -- What reading answers is the text or the first fault.
-use Rattle.std.proofs.Common.{◌≡◌, ℕ, List, Ok, Err}
+use Rattle.std.proofs.Common.{◌≡◌, List, Ok, Err}
 use Rattle.flow_syntax.specs.declared.spec.Spec.{Spec}
 use Rattle.flow_syntax.specs.declared.token.Token.{Token}
 use Rattle.grammar.proofs.WholeLemmas.{whole_found, whole_only, whole_fault, whole_fault_only}

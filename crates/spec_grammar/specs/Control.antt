@@ -3,7 +3,7 @@
 -- head = cname "(" [ pat { "," pat } ] ")"
 -- chain = item "->" item { "->" item }
 -- item = "entry" | "exit" | "start" | "end" | "this" | ID | "node" ID
-use Rattle.std.specs.Prelude.{ℕ, Bool, true, false, List, [], ◌∷◌, Option, Some, None, ◌⊎◌, is_some, if◌then◌else◌}
+use Rattle.std.specs.Prelude.{ℕ, false, [], ◌∷◌, Option, Some, None, is_some, if◌then◌else◌}
 use Rattle.std.proofs.Common.{inl, inr}
 use Rattle.flow_syntax.specs.declared.pattern.Pattern.{Pattern, out-Pattern}
 use Rattle.flow_syntax.specs.declared.rule.Chain.{Chain}

@@ -15,7 +15,7 @@
 -- its operator i deeper than the chain. Its right operand stands behind that operator too, so it is one deeper than it. A suffix in
 -- square brackets stands behind those before it, and its bracket counts from the opening token to the closing one. `if`, `bind`, `not`
 -- and `-` count from their own token to the end of what they begin.
-use Rattle.std.specs.Prelude.{ℕ, Bool, true, false, List, [], ◌∷◌, fold, Option, Some, None, ◌⊎◌, if◌then◌else◌}
+use Rattle.std.specs.Prelude.{ℕ, List, [], ◌∷◌, fold, Option, Some, None, if◌then◌else◌}
 use Rattle.std.proofs.Common.{inl, inr}
 use Rattle.flow_syntax.specs.declared.expr.ArithOp.TheVariants as arith_ops
 use Rattle.flow_syntax.specs.declared.expr.CompareOp.TheVariants as compare_ops
@@ -24,7 +24,6 @@ use Rattle.flow_syntax.specs.declared.expr.ExprKind.{ExprKind}
 use Rattle.flow_syntax.specs.declared.expr.ExprKind.TheVariants as exprs
 use Rattle.flow_syntax.specs.declared.expr.SetOp.TheVariants as set_ops
 use Rattle.flow_syntax.specs.declared.token.Token.{Token}
-use Rattle.flow_syntax.specs.declared.token.TokenKind.{TokenKind}
 use Rattle.grammar.specs.Texts.{Part, Then, Or, Optional, Chain, Nested, Symbol, PartValue}
 use Rattle.spec_grammar.specs.Kinds.{is_kind, kind_of}
 use Rattle.spec_grammar.specs.Parts.{the, any_of, identifier, in_square, text_of, behind_in, inside}

@@ -1,5 +1,5 @@
 -- What holds of the grammar of specifications.
-use Rattle.std.specs.Prelude.{◌≡◌, ◌↔◌, ℕ, List, Ok, Err}
+use Rattle.std.specs.Prelude.{◌≡◌, ◌↔◌, List, Ok, Err}
 use Rattle.flow_syntax.specs.declared.spec.Spec.{Spec}
 use Rattle.flow_syntax.specs.declared.token.Token.{Token}
 use Rattle.grammar.specs.Beginnings.{BeginsByCases}

@@ -4,7 +4,7 @@ use Rattle.flow_syntax.specs.declared.spec.Named.{Named}
 use Rattle.flow_syntax.specs.declared.token.Token.{Token}
 use Rattle.flow_syntax.specs.declared.token.TokenKind.{TokenKind}
 use Rattle.flow_syntax.specs.declared.token.TokenKind.TheVariants as tokens
-use Rattle.grammar.specs.Texts.{Part, One, Then, Many, Nested}
+use Rattle.grammar.specs.Texts.{Part, One, Then, Many, Nested, Symbol}
 use Rattle.spec_grammar.specs.Kinds.{code_of}
 use Rattle.spec_grammar.specs.Symbols.{Nonterminal}
 use Rattle.spec_grammar.specs.declared.kind.Kind.{Kind}
@@ -31,6 +31,10 @@ identifiers = Then identifier (Many identifier)
 -- cname = ID | STR
 abbrev pub constructor_name : Part Nonterminal
 constructor_name = any_of (kinds.Identifier ∷ kinds.Quoted ∷ [])
+
+-- a symbol behind a word or a separator
+abbrev pub symbol_after : Kind → Nonterminal → Part Nonterminal
+symbol_after word i = Then (the word) (Symbol i)
 
 -- p { separator p }
 abbrev pub several : Kind → Part Nonterminal → Part Nonterminal
@@ -80,6 +84,10 @@ number_of token = number_in token.kind
 -- a name has the place of its token
 abbrev pub named : Token → Named
 named token = record { text = text_of token; place = token.place }
+
+-- what stands behind a word or a separator
+abbrev pub second : {X Y : Type 0} → X × Y → Y
+second x = x.1
 
 -- one thing or more, each further one behind a separator
 abbrev pub Listing : Type 0 → Type 0

@@ -6,7 +6,7 @@
 -- pat = "_" | ID [ args | "@" firm ] | unnamed
 -- firm = ID args | unnamed
 -- unnamed = ( "name" | "str" | "int" ) ID | INT | "-" INT | STR [ args ] | "(" .. ")" | "[" .. "]"
-use Rattle.std.specs.Prelude.{ℕ, neg_ℤ, List, [], ◌∷◌, Option, Some, None, ◌⊎◌, if◌then◌else◌}
+use Rattle.std.specs.Prelude.{ℕ, neg_ℤ, List, [], ◌∷◌, Option, Some, None, if◌then◌else◌}
 use Rattle.std.proofs.Common.{inl, inr}
 use Rattle.flow_syntax.specs.declared.pattern.Pattern.{Pattern, roll-Pattern}
 use Rattle.flow_syntax.specs.declared.pattern.PatternKind.{PatternKind}
@@ -14,7 +14,7 @@ use Rattle.flow_syntax.specs.declared.pattern.PatternKind.TheVariants as pattern
 use Rattle.flow_syntax.specs.declared.token.Token.{Token}
 use Rattle.grammar.specs.Texts.{Part, Then, Or, Optional, Nested, Symbol, PartValue}
 use Rattle.spec_grammar.specs.Kinds.{is_a}
-use Rattle.spec_grammar.specs.Parts.{the, any_of, identifier, several, in_round, in_square, text_of, number_of, Listing, listed_in, inside}
+use Rattle.spec_grammar.specs.Parts.{the, any_of, identifier, several, in_round, in_square, text_of, number_of, listed_in, inside}
 use Rattle.spec_grammar.specs.Symbols.{Nonterminal, ValueOf, APattern, AFirmPattern, AnUnnamedPattern, PatternArguments}
 use Rattle.spec_grammar.specs.declared.kind.Kind.TheVariants as kinds
 

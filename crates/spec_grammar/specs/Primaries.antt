@@ -5,7 +5,7 @@
 --      | "{" expr "for" ID "in" e1 [ "if" expr ] "}" | "[" [ expr "|->" expr { "," expr "|->" expr } ] "]"
 --
 -- So that one token decides, what may follow an identifier, a bracket or an expression in braces is split off from it.
-use Rattle.std.specs.Prelude.{ℕ, Bool, true, false, List, [], ◌∷◌, map, Option, Some, None, ◌⊎◌, if◌then◌else◌}
+use Rattle.std.specs.Prelude.{ℕ, true, false, List, [], ◌∷◌, map, Option, Some, None, if◌then◌else◌}
 use Rattle.std.proofs.Common.{inl, inr}
 use Rattle.flow_syntax.specs.declared.expr.Expr.{Expr, out-Expr}
 use Rattle.flow_syntax.specs.declared.expr.ExprKind.{ExprKind}
@@ -13,11 +13,10 @@ use Rattle.flow_syntax.specs.declared.expr.ExprKind.TheVariants as exprs
 use Rattle.flow_syntax.specs.declared.expr.Side.{Side}
 use Rattle.flow_syntax.specs.declared.expr.Side.TheVariants as sides
 use Rattle.flow_syntax.specs.declared.token.Token.{Token}
-use Rattle.flow_syntax.specs.declared.token.TokenKind.{TokenKind}
-use Rattle.grammar.specs.Texts.{Part, Then, Or, Optional, Nested, Symbol, PartValue}
+use Rattle.grammar.specs.Texts.{Part, Then, Or, Optional, Symbol, PartValue}
 use Rattle.spec_grammar.specs.Expressions.{expr_at, expr_after, one_or_two, first_and_second}
 use Rattle.spec_grammar.specs.Kinds.{is_a, is_kind, kind_of}
-use Rattle.spec_grammar.specs.Parts.{the, any_of, identifier, several, in_round, in_square, in_braces, text_of, number_of, Listing, listed, behind_in, listed_in, inside}
+use Rattle.spec_grammar.specs.Parts.{the, any_of, identifier, several, in_round, in_square, in_braces, text_of, number_of, listed, behind_in, listed_in, inside}
 use Rattle.spec_grammar.specs.Rules.{condition}
 use Rattle.spec_grammar.specs.Symbols.{Nonterminal, ValueOf, AnExpr, ALevel, ANamedExpr, AParenthesis, ABrace, AMap}
 use Rattle.spec_grammar.specs.declared.level.BinaryLevel.TheVariants.{Disjunction}

@@ -5,9 +5,8 @@
 -- message = level part { "," part } "on" pat [ "if" expr ]
 -- level = "error" | "warning" | "note"
 -- part = STR | ID
-use Rattle.std.specs.Prelude.{List, [], ◌∷◌, map, Option, Some, None, ◌⊎◌, if◌then◌else◌}
+use Rattle.std.specs.Prelude.{[], ◌∷◌, map, if◌then◌else◌}
 use Rattle.std.proofs.Common.{inl, inr}
-use Rattle.flow_syntax.specs.declared.expr.Expr.{Expr}
 use Rattle.flow_syntax.specs.declared.message.Level.{Level}
 use Rattle.flow_syntax.specs.declared.message.Level.TheVariants as levels
 use Rattle.flow_syntax.specs.declared.message.Message.{Message}

@@ -1,7 +1,7 @@
 -- signature = "signature" "start" ID { constructor }
 -- constructor = cname ":" [ tsort { "*" tsort } ] "->" ID
 -- tsort = ID | "str" | "int" | "any" | "list" "(" tsort ")" | "(" tsort { "," tsort } ")"
-use Rattle.std.specs.Prelude.{List, [], ◌∷◌, Option, ◌⊎◌, if◌then◌else◌}
+use Rattle.std.specs.Prelude.{[], ◌∷◌, if◌then◌else◌}
 use Rattle.std.proofs.Common.{inl, inr}
 use Rattle.flow_syntax.specs.declared.signature.Constructor.{Constructor}
 use Rattle.flow_syntax.specs.declared.signature.Signature.{Signature}

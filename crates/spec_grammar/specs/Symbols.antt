@@ -1,5 +1,5 @@
 -- The named symbols of the grammar, and the type of what each is read as.
-use Rattle.std.specs.Prelude.{ℕ, List, Option}
+use Rattle.std.specs.Prelude.{List, Option}
 use Rattle.flow_syntax.specs.declared.expr.Expr.{Expr}
 use Rattle.flow_syntax.specs.declared.message.Message.{Message}
 use Rattle.flow_syntax.specs.declared.pattern.Pattern.{Pattern}

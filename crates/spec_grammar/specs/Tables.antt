@@ -4,7 +4,7 @@
 -- lattice = ID "{" "elements" ID { ID } "bottom" ID "join" ID { ID } "}"
 -- functions = "functions" { function }
 -- function = ID "(" ID [ "," ID ] ")" ":" ID "{" ID { ID } "}"
-use Rattle.std.specs.Prelude.{List, [], ◌∷◌, map, Option, Some, None}
+use Rattle.std.specs.Prelude.{List, [], ◌∷◌, map, Some, None}
 use Rattle.flow_syntax.specs.declared.spec.Named.{Named}
 use Rattle.flow_syntax.specs.declared.tables.EnumDecl.{EnumDecl}
 use Rattle.flow_syntax.specs.declared.tables.FunctionDecl.{FunctionDecl}

@@ -3,7 +3,7 @@
 -- type = "MaySet" "(" elem ")" | "MustSet" "(" elem ")" | "Flat" "(" elem ")"
 --      | "Map" "(" elem "," type ")" | "Pair" "(" type "," type ")" | ID
 -- elem = "name" | "pos" | "str" | "int" | ID | "(" elem "," elem ")"
-use Rattle.std.specs.Prelude.{List, [], ◌∷◌, ◌⊎◌, if◌then◌else◌}
+use Rattle.std.specs.Prelude.{[], ◌∷◌, if◌then◌else◌}
 use Rattle.std.proofs.Common.{inl, inr}
 use Rattle.flow_syntax.specs.declared.property.PropDecl.{PropDecl}
 use Rattle.flow_syntax.specs.declared.token.Token.{Token}

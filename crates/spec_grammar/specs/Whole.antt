@@ -1,6 +1,6 @@
 -- spec = "module" ID [ signature ] [ sorts ] [ lattices ] [ functions ] control [ properties ] [ rules ] [ messages ], and the end of the text
 -- sorts = "sorts" { enum }, and so on: the word of a section, and its declarations
-use Rattle.std.specs.Prelude.{List, [], ◌∷◌, Option, Some, None}
+use Rattle.std.specs.Prelude.{List, [], Option, Some, None}
 use Rattle.flow_syntax.specs.declared.spec.Spec.{Spec}
 use Rattle.flow_syntax.specs.declared.token.Token.{Token}
 use Rattle.grammar.specs.Texts.{Part, Then, Optional, Many, Symbol, PartValue}

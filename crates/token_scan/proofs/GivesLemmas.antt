@@ -1,7 +1,6 @@
--- What fails in a part fails in the whole.
-use Rattle.std.proofs.Common.{◌≡◌, ℕ, ◌<◌, List, Result, Ok, Err, refl, sym, ap, ◌∙◌}
+-- Faults of parts that are faults of the whole.
+use Rattle.std.proofs.Common.{◌≡◌, ℕ, ◌<◌, List, Result, Err}
 use Rattle.flow_syntax.specs.declared.token.Token.{Token}
-use Rattle.grammar.specs.Reading.{◌>>=◌}
 use Rattle.grammar.specs.declared.Cause.{Cause}
 use Rattle.spec_grammar.proofs.Unrolled.{reads_deep}
 use Rattle.spec_grammar.specs.Choice.{begins}
@@ -10,11 +9,6 @@ use Rattle.spec_grammar.specs.Symbols.{Nonterminal}
 use Rattle.token_scan.specs.Gives.{Fails, IsTooDeep}
 use Rattle.token_scan.specs.declared.scan.Refusal.{Refusal}
 use Rattle.token_scan.specs.declared.scan.Refusal.TheVariants as refusals
-
--- where the whole is the part and what is made of it
-pub fails_in : {X Y : Type 0} (r : Refusal) (part : Result X (Cause × List Token)) (f : X → Result Y (Cause × List Token)) (whole : Result Y (Cause × List Token)) → whole ≡ (part >>= f) → Fails r part → Fails r whole
-fails_in (refusals.Fault cause rest) part f whole e h = e ∙ ap (λ o. o >>= f) h
-fails_in refusals.NoMemory part f whole e h = tt
 
 -- where a fault of the part is one of the whole
 pub fails_by : {X Y : Type 0} (r : Refusal) (part : Result X (Cause × List Token)) (whole : Result Y (Cause × List Token)) → ((e : Cause × List Token) → part ≡ Err e → whole ≡ Err e) → Fails r part → Fails r whole

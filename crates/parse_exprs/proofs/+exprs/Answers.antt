@@ -1,6 +1,7 @@
 use Rattle.std.proofs.Common.{◌∷◌, [], arith, rules, refl, sym, ◌∙◌}
 use Rattle.std.proofs.lemmas.Result.{err_from_is_err_and}
-use Rattle.spec_grammar.proofs.Unrolled.{one_take, reads_take}
+use Rattle.spec_grammar.proofs.Turns.{after_take, after_turn}
+use Rattle.spec_grammar.proofs.Unrolled.{one_take}
 use Rattle.spec_grammar.specs.Kinds.{code_of}
 use Rattle.spec_grammar.specs.Reading.{reads}
 use Rattle.spec_grammar.specs.Symbols.{AnExpr, ALevel, AnOperand, ANegation, AComparison, AnOpposite, ALookup, APrimary}
@@ -8,7 +9,7 @@ use Rattle.spec_grammar.specs.declared.kind.Kind.TheVariants as kinds
 use Rattle.spec_grammar.specs.declared.level.BinaryLevel.TheVariants as levels
 use Rattle.token_scan.proofs.GivesLemmas.{fails_by, deep_fails}
 use Rattle.parse_exprs.proofs.LevelLaws.{expr_conditional, expr_binding, expr_level, level_at, operated_at, operator_turn, operator_end, disjunction_operand, conjunction_operand, set_operation_operand, sum_operand, product_operand, bracketed_at, negation_not, negation_none, comparison_alone, comparison_two, comparison_fails, opposite_signed, opposite_none, lookup_at, suffix_at, suffix_turn, suffix_end}
-use Rattle.parse_exprs.proofs.PrimaryLaws.{primary_literal, primary_applied, primary_named, primary_parenthesis, primary_brace, primary_map, applied_at, named_called, called_arguments, one_argument, two_arguments, parenthesis_at, parenthesis_alone, parenthesis_pair, pair_at, brace_some, elements_chosen, elements_listed, elements_turn, comprehension_at, map_some, entries_at, entries_turn, entry_take}
+use Rattle.parse_exprs.proofs.PrimaryLaws.{primary_literal, primary_applied, primary_named, primary_parenthesis, primary_brace, primary_map, applied_at, named_called, called_arguments, one_argument, two_arguments, parenthesis_at, parenthesis_alone, parenthesis_pair, pair_at, brace_some, elements_chosen, elements_listed, comprehension_at, map_some, entries_at, entries_turn, entry_take}
 use Rattle.parse_exprs.proofs.+exprs.Goals as goal
 
 -- ** `expr`
@@ -76,7 +77,7 @@ exprs::operand-returns-in-Product t c = rw (c.in-Product.is, product_operand c.a
 -- ** `negation`
 
 pub exprs::negation-returns-then-nesting-gt-LIMIT : goal.exprs::negation-returns-then-nesting-gt-LIMIT
-exprs::negation-returns-then-nesting-gt-LIMIT t c = deep_fails c.too_deep.result c.args.nesting ANegation c.args.cursor.tokens.now c.if-nesting-gt-LIMIT.true c.too_deep.ensures
+exprs::negation-returns-then-nesting-gt-LIMIT t c = deep_fails c.too_deep.result c.args.nesting ANegation c.args.cursor.tokens.now c.if-nesting-gt-LIMIT.true (rw c.negation_beginnings.ensures at c.too_deep.ensures)
 
 pub exprs::negation-returns-in_err-word : goal.exprs::negation-returns-in_err-word
 exprs::negation-returns-in_err-word t c = rw (negation_not c.args.nesting c.args.cursor.tokens.now (omega arith) (sym c.if-begins.ensures)) (search rules)
@@ -93,7 +94,7 @@ exprs::negation-returns t c = rw (negation_none c.args.nesting c.args.cursor.tok
 -- ** `comparison`
 
 pub exprs::comparison-returns-then-nesting-gt-LIMIT : goal.exprs::comparison-returns-then-nesting-gt-LIMIT
-exprs::comparison-returns-then-nesting-gt-LIMIT t c = deep_fails c.too_deep.result c.args.nesting AComparison c.args.cursor.tokens.now c.if-nesting-gt-LIMIT.true c.too_deep.ensures
+exprs::comparison-returns-then-nesting-gt-LIMIT t c = deep_fails c.too_deep.result c.args.nesting AComparison c.args.cursor.tokens.now c.if-nesting-gt-LIMIT.true (rw c.opposite_beginnings.ensures at c.too_deep.ensures)
 
 pub exprs::comparison-returns-in_err-left : goal.exprs::comparison-returns-in_err-left
 exprs::comparison-returns-in_err-left t c = let p = err_from_is_err_and c.from_residual.result c.from_residual.ensures.1 in rw (p.1, p.2) (fails_by _ (reads c.args.nesting (ALevel levels.SetOperation) c.args.cursor.tokens.now) (reads c.args.nesting AComparison c.args.cursor.tokens.now) (λ e h. comparison_fails c.args.nesting c.args.cursor.tokens.now e (omega arith) h) c.in_err-left.ensures)
@@ -113,7 +114,7 @@ exprs::comparison-returns t c = rw (comparison_two c.args.nesting c.args.cursor.
 -- ** `opposite`
 
 pub exprs::opposite-returns-then-nesting-gt-LIMIT : goal.exprs::opposite-returns-then-nesting-gt-LIMIT
-exprs::opposite-returns-then-nesting-gt-LIMIT t c = deep_fails c.too_deep.result c.args.nesting AnOpposite c.args.cursor.tokens.now c.if-nesting-gt-LIMIT.true c.too_deep.ensures
+exprs::opposite-returns-then-nesting-gt-LIMIT t c = deep_fails c.too_deep.result c.args.nesting AnOpposite c.args.cursor.tokens.now c.if-nesting-gt-LIMIT.true (rw c.opposite_beginnings.ensures at c.too_deep.ensures)
 
 pub exprs::opposite-returns-in_err-sign : goal.exprs::opposite-returns-in_err-sign
 exprs::opposite-returns-in_err-sign t c = rw (opposite_signed c.args.nesting c.args.cursor.tokens.now (omega arith) (sym c.if-begins.ensures)) (search rules)
@@ -130,7 +131,7 @@ exprs::opposite-returns t c = rw (opposite_none c.args.nesting c.args.cursor.tok
 -- ** `lookup`
 
 pub exprs::lookup-returns-then-nesting-gt-LIMIT : goal.exprs::lookup-returns-then-nesting-gt-LIMIT
-exprs::lookup-returns-then-nesting-gt-LIMIT t c = deep_fails c.too_deep.result c.args.nesting ALookup c.args.cursor.tokens.now c.if-nesting-gt-LIMIT.true c.too_deep.ensures
+exprs::lookup-returns-then-nesting-gt-LIMIT t c = deep_fails c.too_deep.result c.args.nesting ALookup c.args.cursor.tokens.now c.if-nesting-gt-LIMIT.true (rw c.primary_beginnings.ensures at c.too_deep.ensures)
 
 pub exprs::lookup-returns-in_err-whole : goal.exprs::lookup-returns-in_err-whole
 exprs::lookup-returns-in_err-whole t c = rw (lookup_at c.args.nesting c.args.cursor.tokens.now (omega arith)) (search rules)
@@ -172,7 +173,7 @@ exprs::bracketed-returns t c = rw (bracketed_at c.args.nesting kinds.Becomes kin
 -- ** `primary`
 
 pub primaries::primary-returns-then-nesting-gt-LIMIT : goal.primaries::primary-returns-then-nesting-gt-LIMIT
-primaries::primary-returns-then-nesting-gt-LIMIT t c = deep_fails c.too_deep.result c.args.nesting APrimary c.args.cursor.tokens.now c.if-nesting-gt-LIMIT.true c.too_deep.ensures
+primaries::primary-returns-then-nesting-gt-LIMIT t c = deep_fails c.too_deep.result c.args.nesting APrimary c.args.cursor.tokens.now c.if-nesting-gt-LIMIT.true (rw c.primary_beginnings.ensures at c.too_deep.ensures)
 
 pub primaries::primary-returns-then-begins_any : goal.primaries::primary-returns-then-begins_any
 primaries::primary-returns-then-begins_any t c = rw (primary_literal c.args.nesting c.args.cursor.tokens.now (omega arith) (sym c.if-begins_any.ensures)) c.literal.ensures
@@ -277,10 +278,10 @@ primaries::elements-returns t c = rw (elements_listed c.args.nesting c.args.curs
 -- ** `further`
 
 pub primaries::further-loop-alloc-smaller : goal.primaries::further-loop-alloc-smaller
-primaries::further-loop-alloc-smaller t c = let a = reads_take c.args.nesting AnExpr c.in_ok-after.after.tokens.now c.in_ok-element.element c.in_ok-element.after.tokens.now c.in_ok-element.ensures in let b = one_take c.args.nesting (code_of kinds.Comma ∷ []) c.loop-alloc.rest.tokens.now c.in_ok-after.field-0-0.now c.in_ok-after.after.tokens.now c.in_ok-after.ensures.reads in omega arith
+primaries::further-loop-alloc-smaller t c = after_take c.args.nesting kinds.Comma AnExpr c.loop-alloc.rest.tokens.now c.in_ok-after.field-0-0.now c.in_ok-after.after.tokens.now c.in_ok-element.element c.in_ok-element.after.tokens.now c.in_ok-after.ensures.reads c.in_ok-element.ensures
 
 pub primaries::further-loop-alloc-preserved : goal.primaries::further-loop-alloc-preserved
-primaries::further-loop-alloc-preserved t c = rw c.in_ok-push.ensures.ok (sym (elements_turn c.args.nesting c.loop-alloc.elements c.loop-alloc.rest.tokens.now (sym c.loop-alloc-test.ensures) ∙ rw (c.in_ok-after.ensures.reads, c.in_ok-element.ensures) refl) ∙ c.loop-alloc.invariant)
+primaries::further-loop-alloc-preserved t c = rw c.in_ok-push.ensures.ok (sym (after_turn c.args.nesting kinds.Comma AnExpr c.loop-alloc.elements c.loop-alloc.rest.tokens.now (omega arith) (sym c.loop-alloc-test.ensures) ∙ rw (c.in_ok-after.ensures.reads, c.in_ok-element.ensures) refl) ∙ c.loop-alloc.invariant)
 
 -- ** `comprehension`
 

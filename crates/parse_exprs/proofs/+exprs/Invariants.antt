@@ -1,9 +1,11 @@
 use Rattle.std.proofs.Common.{◌≤◌, ◌≡◌, ◌+◌, ◌-◌, ◌*◌, length}
+use Rattle.spec_grammar.proofs.Turns.{more_after}
 use Rattle.spec_grammar.specs.Choice.{rank_of_level, rank_of_operand}
 use Rattle.spec_grammar.specs.Reading.{reads}
-use Rattle.spec_grammar.specs.Symbols.{ALevel, ALookup}
+use Rattle.spec_grammar.specs.Symbols.{AnExpr, ALevel, ALookup}
+use Rattle.spec_grammar.specs.declared.kind.Kind.TheVariants as kinds
 use Rattle.parse_exprs.proofs.LevelLaws.{reads_operators, reads_suffixes}
-use Rattle.parse_exprs.proofs.PrimaryLaws.{reads_elements, reads_entries}
+use Rattle.parse_exprs.proofs.PrimaryLaws.{reads_entries}
 use Rattle.parse_exprs.proofs.+exprs.Given as goal
 
 -- A function that calls another at the same nesting is of higher rank; the symbols have those of the grammar.
@@ -92,7 +94,7 @@ abbrev pub decreases-primaries::further : goal.decreases-primaries::further
 decreases-primaries::further l = 24 * (257 - l.nesting) + 18
 
 abbrev pub invariant-primaries::further-loop-alloc : goal.invariant-primaries::further-loop-alloc
-invariant-primaries::further-loop-alloc l = reads_elements l.nesting l.elements l.rest.tokens.now ≡ reads_elements l.fn.nesting l.fn.elements l.fn.cursor.tokens.now
+invariant-primaries::further-loop-alloc l = more_after l.nesting kinds.Comma AnExpr l.elements l.rest.tokens.now ≡ more_after l.fn.nesting kinds.Comma AnExpr l.fn.elements l.fn.cursor.tokens.now
 
 abbrev pub decreases-primaries::further-loop-alloc : goal.decreases-primaries::further-loop-alloc
 decreases-primaries::further-loop-alloc l = length l.rest.tokens.now

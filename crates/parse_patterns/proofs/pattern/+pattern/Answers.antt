@@ -1,12 +1,12 @@
-use Rattle.std.proofs.Common.{◌≡◌, ◌+◌, ◌∷◌, [], arith, refl, sym, ◌∙◌, pos, ◌<◌}
+use Rattle.std.proofs.Common.{◌≡◌, ◌+◌, arith, refl, sym, ◌∙◌, pos, ◌<◌}
 use Rattle.std.proofs.lemmas.Result.{err_from_is_err_and}
-use Rattle.spec_grammar.proofs.Unrolled.{one_at, one_take, reads_take}
-use Rattle.spec_grammar.specs.Kinds.{code_of}
+use Rattle.spec_grammar.proofs.Turns.{after_take, after_turn}
+use Rattle.spec_grammar.proofs.Unrolled.{one_at}
 use Rattle.spec_grammar.specs.Symbols.{APattern, AFirmPattern, AnUnnamedPattern, PatternArguments}
 use Rattle.spec_grammar.specs.Reading.{reads, reads_as}
 use Rattle.spec_grammar.specs.declared.kind.Kind.TheVariants as kinds
 use Rattle.token_scan.proofs.GivesLemmas.{fails_by, deep_fails}
-use Rattle.parse_patterns.proofs.PatternLaws.{pattern_wild, pattern_named, pattern_unnamed, more_patterns, firm_application, firm_unnamed, unnamed_sorted, unnamed_number, unnamed_negative, unnamed_quoted, unnamed_tuple, unnamed_items, arguments_at, bracketed_at, held_at, one_kind, number_is_positive, number_back}
+use Rattle.parse_patterns.proofs.PatternLaws.{pattern_wild, pattern_named, pattern_unnamed, firm_application, firm_unnamed, unnamed_sorted, unnamed_number, unnamed_negative, unnamed_quoted, unnamed_tuple, unnamed_items, arguments_at, bracketed_at, held_at, one_kind, number_is_positive, number_back}
 use Rattle.parse_patterns.specs.Parts.{bracketed, placed}
 use Rattle.parse_patterns.proofs.pattern.+pattern.Goals as goal
 
@@ -37,7 +37,7 @@ read_identifier_pattern-returns-then-begins-2 t c =
 -- ** `read_firm_pattern`
 
 pub read_firm_pattern-returns-then-nesting-gt-LIMIT : goal.read_firm_pattern-returns-then-nesting-gt-LIMIT
-read_firm_pattern-returns-then-nesting-gt-LIMIT t c = deep_fails c.too_deep.result c.args.nesting AFirmPattern c.args.cursor.tokens.now c.if-nesting-gt-LIMIT.true c.too_deep.ensures
+read_firm_pattern-returns-then-nesting-gt-LIMIT t c = deep_fails c.too_deep.result c.args.nesting AFirmPattern c.args.cursor.tokens.now c.if-nesting-gt-LIMIT.true (rw c.firm_pattern_beginnings.ensures at c.too_deep.ensures)
 
 pub read_firm_pattern-returns-then-begins : goal.read_firm_pattern-returns-then-begins
 read_firm_pattern-returns-then-begins t c =
@@ -50,7 +50,7 @@ read_firm_pattern-returns t c =
 -- ** `read_unnamed_pattern`
 
 pub read_unnamed_pattern-returns-then-nesting-gt-LIMIT : goal.read_unnamed_pattern-returns-then-nesting-gt-LIMIT
-read_unnamed_pattern-returns-then-nesting-gt-LIMIT t c = deep_fails c.too_deep.result c.args.nesting AnUnnamedPattern c.args.cursor.tokens.now c.if-nesting-gt-LIMIT.true c.too_deep.ensures
+read_unnamed_pattern-returns-then-nesting-gt-LIMIT t c = deep_fails c.too_deep.result c.args.nesting AnUnnamedPattern c.args.cursor.tokens.now c.if-nesting-gt-LIMIT.true (rw c.unnamed_pattern_beginnings.ensures at c.too_deep.ensures)
 
 pub read_unnamed_pattern-returns-then-begins_any : goal.read_unnamed_pattern-returns-then-begins_any
 read_unnamed_pattern-returns-then-begins_any t c =
@@ -117,11 +117,8 @@ read_bracketed-returns-in_err-rest t c =
 -- ** `read_more_patterns`
 
 pub read_more_patterns-loop-alloc-smaller : goal.read_more_patterns-loop-alloc-smaller
-read_more_patterns-loop-alloc-smaller t c =
-    let a = reads_take c.args.nesting APattern c.in_ok-after.after.tokens.now c.in_ok-next.next c.in_ok-next.after.tokens.now c.in_ok-next.ensures in
-    let b = one_take c.args.nesting (code_of kinds.Comma ∷ []) c.loop-alloc.rest.tokens.now c.in_ok-after.field-0-0.now c.in_ok-after.after.tokens.now c.in_ok-after.ensures.reads in
-    omega arith
+read_more_patterns-loop-alloc-smaller t c = after_take c.args.nesting kinds.Comma APattern c.loop-alloc.rest.tokens.now c.in_ok-after.field-0-0.now c.in_ok-after.after.tokens.now c.in_ok-next.next c.in_ok-next.after.tokens.now c.in_ok-after.ensures.reads c.in_ok-next.ensures
 
 pub read_more_patterns-loop-alloc-preserved : goal.read_more_patterns-loop-alloc-preserved
 read_more_patterns-loop-alloc-preserved t c =
-    rw c.in_ok-push.ensures.ok (sym (more_patterns c.args.nesting c.loop-alloc.patterns c.loop-alloc.rest.tokens.now (sym c.loop-alloc-test.ensures) ∙ rw (c.in_ok-after.ensures.reads, c.in_ok-next.ensures) refl) ∙ c.loop-alloc.invariant)
+    rw c.in_ok-push.ensures.ok (sym (after_turn c.args.nesting kinds.Comma APattern c.loop-alloc.patterns c.loop-alloc.rest.tokens.now (omega arith) (sym c.loop-alloc-test.ensures) ∙ rw (c.in_ok-after.ensures.reads, c.in_ok-next.ensures) refl) ∙ c.loop-alloc.invariant)

@@ -1,8 +1,7 @@
 use Rattle.std.proofs.Common.{◌≡◌, ◌+◌, ◌-◌, ◌*◌, length}
-use Rattle.spec_grammar.proofs.Unrolled.{reads_more}
+use Rattle.spec_grammar.proofs.Turns.{more_after}
 use Rattle.spec_grammar.specs.Symbols.{APattern}
 use Rattle.spec_grammar.specs.declared.kind.Kind.TheVariants as kinds
-use Rattle.parse_patterns.specs.Parts.{behind, second}
 use Rattle.parse_patterns.proofs.pattern.+pattern.Given as goal
 
 abbrev pub decreases-read_pattern : goal.decreases-read_pattern
@@ -26,12 +25,6 @@ decreases-read_quoted_pattern l = 9 * (257 - l.nesting) + 3
 abbrev pub decreases-read_arguments : goal.decreases-read_arguments
 decreases-read_arguments l = 9 * (257 - l.nesting) + 2
 
-abbrev pub decreases-read_round : goal.decreases-read_round
-decreases-read_round l = 9 * (257 - l.nesting) + 2
-
-abbrev pub decreases-read_square : goal.decreases-read_square
-decreases-read_square l = 9 * (257 - l.nesting) + 2
-
 abbrev pub decreases-read_bracketed : goal.decreases-read_bracketed
 decreases-read_bracketed l = 9 * (257 - l.nesting) + 1
 
@@ -42,7 +35,7 @@ abbrev pub decreases-read_more_patterns : goal.decreases-read_more_patterns
 decreases-read_more_patterns l = 9 * (257 - l.nesting) + 7
 
 abbrev pub invariant-read_more_patterns-loop-alloc : goal.invariant-read_more_patterns-loop-alloc
-invariant-read_more_patterns-loop-alloc l = reads_more l.nesting (behind kinds.Comma APattern) second l.patterns l.rest.tokens.now ≡ reads_more l.fn.nesting (behind kinds.Comma APattern) second l.fn.patterns l.fn.cursor.tokens.now
+invariant-read_more_patterns-loop-alloc l = more_after l.nesting kinds.Comma APattern l.patterns l.rest.tokens.now ≡ more_after l.fn.nesting kinds.Comma APattern l.fn.patterns l.fn.cursor.tokens.now
 
 abbrev pub decreases-read_more_patterns-loop-alloc : goal.decreases-read_more_patterns-loop-alloc
 decreases-read_more_patterns-loop-alloc l = length l.rest.tokens.now

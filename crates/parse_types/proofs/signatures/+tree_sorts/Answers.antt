@@ -1,10 +1,8 @@
-use Rattle.std.proofs.Common.{◌∷◌, [], arith, rules, refl, sym, ◌∙◌}
-use Rattle.spec_grammar.proofs.Unrolled.{reads_take, one_take}
-use Rattle.spec_grammar.specs.Kinds.{code_of}
+use Rattle.std.proofs.Common.{arith, rules, refl, sym, ◌∙◌}
+use Rattle.spec_grammar.proofs.Turns.{after_take, after_turn}
 use Rattle.spec_grammar.specs.Symbols.{ATreeSort}
 use Rattle.token_scan.proofs.GivesLemmas.{deep_fails}
 use Rattle.parse_types.proofs.SortLaws.{sort_name, sort_str, sort_int, sort_any, sort_list, sort_tuple}
-use Rattle.parse_types.proofs.ListLaws.{sorts_turn}
 use Rattle.parse_types.proofs.signatures.+tree_sorts.Goals as goal
 
 pub read_tree_sort-returns-then-nesting-gt-LIMIT : goal.read_tree_sort-returns-then-nesting-gt-LIMIT
@@ -41,10 +39,7 @@ pub read_tree_sort-returns : goal.read_tree_sort-returns
 read_tree_sort-returns t c = rw (sort_tuple c.args.nesting c.args.cursor.tokens.now (omega arith) (sym c.if-begins.ensures) (sym c.if-begins-2.ensures) (sym c.if-begins-3.ensures) (sym c.if-begins-4.ensures) (sym c.if-begins-5.ensures)) (search rules)
 
 pub read_tree_sorts-loop-alloc-smaller : goal.read_tree_sorts-loop-alloc-smaller
-read_tree_sorts-loop-alloc-smaller t c =
-    let taken = one_take c.args.nesting (code_of c.args.separator ∷ []) c.loop-alloc.rest.tokens.now c.in_ok-after.field-0-0.now c.in_ok-after.after.tokens.now c.in_ok-after.ensures.reads in
-    let read = reads_take c.args.nesting ATreeSort c.in_ok-after.after.tokens.now c.in_ok-sort.sort c.in_ok-sort.after.tokens.now c.in_ok-sort.ensures in
-    omega arith
+read_tree_sorts-loop-alloc-smaller t c = after_take c.args.nesting c.args.separator ATreeSort c.loop-alloc.rest.tokens.now c.in_ok-after.field-0-0.now c.in_ok-after.after.tokens.now c.in_ok-sort.sort c.in_ok-sort.after.tokens.now c.in_ok-after.ensures.reads c.in_ok-sort.ensures
 
 pub read_tree_sorts-loop-alloc-preserved : goal.read_tree_sorts-loop-alloc-preserved
-read_tree_sorts-loop-alloc-preserved t c = rw c.in_ok-push-2.ensures.ok (sym (sorts_turn c.args.nesting c.args.separator c.loop-alloc.sorts c.loop-alloc.rest.tokens.now c.requires.kind (sym c.loop-alloc-test.ensures) ∙ rw (c.in_ok-after.ensures.reads, c.in_ok-sort.ensures) refl) ∙ c.loop-alloc.invariant)
+read_tree_sorts-loop-alloc-preserved t c = rw c.in_ok-push-2.ensures.ok (sym (after_turn c.args.nesting c.args.separator ATreeSort c.loop-alloc.sorts c.loop-alloc.rest.tokens.now c.requires.kind (sym c.loop-alloc-test.ensures) ∙ rw (c.in_ok-after.ensures.reads, c.in_ok-sort.ensures) refl) ∙ c.loop-alloc.invariant)

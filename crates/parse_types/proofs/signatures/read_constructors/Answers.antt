@@ -1,7 +1,7 @@
 use Rattle.std.proofs.Common.{refl, sym, ◌∙◌}
 use Rattle.spec_grammar.proofs.Unrolled.{reads_take}
 use Rattle.spec_grammar.specs.Symbols.{AConstructor}
-use Rattle.parse_types.proofs.ListLaws.{each_turn}
+use Rattle.spec_grammar.proofs.Turns.{each_turn}
 use Rattle.parse_types.proofs.signatures.read_constructors.Goals as goal
 
 pub loop-alloc-smaller : goal.loop-alloc-smaller

@@ -1,5 +1,5 @@
 use Rattle.std.proofs.Common.{◌≡◌, length}
-use Rattle.parse_types.proofs.ListLaws.{more_of}
+use Rattle.spec_grammar.proofs.Turns.{more_of}
 use Rattle.parse_types.specs.Pieces.{reads_each}
 use Rattle.spec_grammar.specs.Symbols.{AConstructor}
 use Rattle.parse_types.proofs.signatures.read_constructors.Given as goal

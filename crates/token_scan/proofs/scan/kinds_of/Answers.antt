@@ -1,4 +1,4 @@
-use Rattle.std.proofs.Common.{◌≡◌, map, take, ◌++◌, ◌∷◌, [], sym, ap, ◌∙◌, arith}
+use Rattle.std.proofs.Common.{map, take, ◌++◌, ◌∷◌, [], sym, ap, ◌∙◌}
 use Rattle.std.proofs.lemmas.List.{map-append, map_more}
 use Rattle.flow_syntax.specs.declared.token.Token.{Token}
 use Rattle.spec_grammar.specs.Kinds.{code_of, kind_of}
