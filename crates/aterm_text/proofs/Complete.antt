@@ -15,9 +15,9 @@ use Rattle.aterm_text.specs.declared.reader.state.Last.TheVariants as last
 use Rattle.aterm_text.specs.declared.refusal.TermFaultKind.TheVariants.{Unexpected}
 use Rattle.aterm_text.specs.Bytes.{class_of}
 use Rattle.aterm_text.specs.Grammar.{term, IsBlank, IsSymbol, IsQuoted, IsName, number_of, signed, IsNumeral, IsI64, IsTerm, bare, annotated, IsBody, symbol, application, text, tuple, items, number, AreTerms, none, some, AreItems, single, further}
-use Rattle.aterm_text.specs.Machine.{State, state, Next, close, closed_as, step_by, run, ◌>>=◌}
+use Rattle.aterm_text.specs.inner.Machine.{State, state, Next, close, closed_as, step_by, run, ◌>>=◌}
 use Rattle.aterm_text.specs.Numbers.{integer_of}
-use Rattle.aterm_text.specs.Open.{closing_byte_of, with_item}
+use Rattle.aterm_text.specs.inner.Open.{closing_byte_of, with_item}
 use Rattle.aterm_text.proofs.Classes.{class_bracket, class_comma, class_parenthesis, class_closing_list, class_closing_call, class_closing_annotations}
 use Rattle.aterm_text.proofs.Sizes.{deepest, parts_of, size_term, depth_term, parts_apply, parts_tuple, parts_items, parts_int, parts_text, size_positive, depth_positive, sizes_cons}
 use Rattle.aterm_text.proofs.Runs.{run_on, byte_on, skip_then, CanBegin, skip_before, HasRoom, begins_with, reads_symbol, reads_quoted, ReadsNumeral, reads_numeral, IntegerIs, integer_is, HasBody, IsWhole, whole_from_body, blank_whole, ends_comma, ends_closing, opens, Named, opens_call, opens_annotations}

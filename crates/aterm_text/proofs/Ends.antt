@@ -15,7 +15,7 @@ use Rattle.aterm_text.specs.declared.refusal.TermFaultKind.TheVariants.{NotUtf8,
 use Rattle.aterm_text.specs.Bytes.{is_octal, short_escape}
 use Rattle.aterm_text.specs.Faults.{Begins, IsDue}
 use Rattle.aterm_text.specs.Grammar.{term, IsSymbol, IsEscape, short, octal, IsQuoted, number_of, signed, sign_text, IsI64, IsTerm, bare, IsBody}
-use Rattle.aterm_text.specs.Machine.{State, state, ended_number, ended, outermost, finish, ◌>>=◌}
+use Rattle.aterm_text.specs.inner.Machine.{State, state, ended_number, ended, outermost, finish, ◌>>=◌}
 use Rattle.aterm_text.specs.Numbers.{integer_of}
 use Rattle.aterm_text.proofs.Sizes.{deepest, parts_of, size_term, depth_term, parts_apply, parts_int, parts_text}
 use Rattle.aterm_text.proofs.Runs.{IntegerIs, integer_is, low_is_octal, octal_long}

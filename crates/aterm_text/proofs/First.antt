@@ -17,7 +17,7 @@ use Rattle.aterm_text.specs.declared.refusal.TermFaultKind.TheVariants.{NotUtf8,
 use Rattle.aterm_text.specs.Bytes.{class_of, begins_term, misplaced, is_real_mark, is_low_octal, is_octal, octal_value, short_escape}
 use Rattle.aterm_text.specs.Faults.{Begins, IsDue, begun_in, StartsWith, is_digit, continues_number, EndsNumber, NumberBetween, BadEscapeBetween, CannotGoOn, StandsBetween, IsFault, rank, ComesFirst}
 use Rattle.aterm_text.specs.Grammar.{IsEscape, short, octal, IsDigits, number_of, signed, sign_text, IsNumeral, IsI64, IsText, TermText}
-use Rattle.aterm_text.specs.Machine.{State, state, Next, limited, begin_within, begin, escaped, in_one_octal, in_two_octals, after_number, after_integer, in_number, step_by, step, run, ended_number, outermost, finish, nothing, reading, ◌>>=◌}
+use Rattle.aterm_text.specs.inner.Machine.{State, state, Next, limited, begin_within, begin, escaped, in_one_octal, in_two_octals, after_number, after_integer, in_number, step_by, step, run, ended_number, outermost, finish, nothing, reading, ◌>>=◌}
 use Rattle.aterm_text.specs.Numbers.{more_digits, with_digit, integer_within, integer_of}
 use Rattle.aterm_text.proofs.Classes.{same_byte, class_quote, class_minus, class_exclamation, class_less}
 use Rattle.aterm_text.proofs.Runs.{bind_is, lt_false, run_append, run_on, CanBegin, begins, NumberIs, ReadsNumeral, reads_numeral, reads_inside, IntegerIs, integer_is, low_high, low_is_octal, octal_high}

@@ -9,7 +9,7 @@ use Rattle.aterm_text.specs.declared.reader.state.Last.TheVariants as last
 use Rattle.aterm_text.specs.declared.refusal.TermFaultKind.{TermFaultKind}
 use Rattle.aterm_text.specs.declared.refusal.TermFaultKind.TheVariants.{Unexpected, TooDeep, TooMany}
 use Rattle.aterm_text.specs.Bytes.{class_of, begins_term, misplaced}
-use Rattle.aterm_text.specs.Machine.{State, state, Next, limited, begin_within, begin, step_by, step, run, ◌>>=◌}
+use Rattle.aterm_text.specs.inner.Machine.{State, state, Next, limited, begin_within, begin, step_by, step, run, ◌>>=◌}
 use Rattle.aterm_text.proofs.Runs.{bind_is, bound_ok}
 
 abbrev pub IsLimit : TermFaultKind → Type 0

@@ -13,8 +13,8 @@ use Rattle.aterm_text.specs.declared.open.Opener.TheVariants.{Call, Tuple, Items
 use Rattle.aterm_text.specs.Bytes.{class_of}
 use Rattle.aterm_text.specs.Faults.{Begins, IsDue}
 use Rattle.aterm_text.specs.Grammar.{term, IsBlank, IsSymbol, IsInside, IsQuoted, IsNumeral, IsTerm, bare, IsBody, symbol, text, number, IsText}
-use Rattle.aterm_text.specs.Machine.{closed_as}
-use Rattle.aterm_text.specs.Open.{closing_byte_of, with_item}
+use Rattle.aterm_text.specs.inner.Machine.{closed_as}
+use Rattle.aterm_text.specs.inner.Open.{closing_byte_of, with_item}
 use Rattle.aterm_text.proofs.Spelled.{Behind, Quoting, Closes, closed_spelled, behind_as, behind_at, with_last}
 
 -- a text and a byte of ASCII behind it

@@ -12,8 +12,8 @@ use Rattle.aterm_text.specs.declared.reader.state.Last.{Last}
 use Rattle.aterm_text.specs.declared.reader.state.Last.TheVariants as last
 use Rattle.aterm_text.specs.Faults.{IsHead, AreFollowed, no_item, item, IsDue, opener_size, begun_in}
 use Rattle.aterm_text.specs.Grammar.{IsBlank}
-use Rattle.aterm_text.specs.Machine.{State, state, Next, run, nothing}
-use Rattle.aterm_text.specs.Open.{with_item}
+use Rattle.aterm_text.specs.inner.Machine.{State, state, Next, run, nothing}
+use Rattle.aterm_text.specs.inner.Open.{with_item}
 use Rattle.aterm_text.proofs.Classes.{class_bracket, class_parenthesis}
 use Rattle.aterm_text.proofs.Sizes.{parts_of, size_more}
 use Rattle.aterm_text.proofs.Runs.{run_on, CanBegin, skip_before, HasRoom, begins_with, opens, opens_annotations}

@@ -14,12 +14,12 @@ use Rattle.aterm_text.specs.declared.refusal.TermFaultKind.{TermFaultKind}
 use Rattle.aterm_text.specs.declared.refusal.TermFaultKind.TheVariants.{NotUtf8, Unexpected, Shared, Placeholder, Real, Blob, BadEscape, IntRange, TooDeep, TooMany}
 use Rattle.aterm_text.specs.declared.refusal.TermRefusal.{TermRefusal}
 use Rattle.aterm_text.specs.declared.refusal.TermRefusal.TheVariants.{Fault, NoMemory}
-use Rattle.aterm_text.specs.Answers.{state_of, AnswersTerm, IsReady, IfFault, UnlessNoMemory}
+use Rattle.aterm_text.specs.inner.Answers.{state_of, AnswersTerm, IsReady, IfFault, UnlessNoMemory}
 use Rattle.aterm_text.specs.Bytes.{is_low_octal, is_octal}
 use Rattle.aterm_text.specs.Faults.{IsFault, rank, ComesFirst, TermFaulty}
 use Rattle.aterm_text.specs.Grammar.{TermText}
 use Rattle.aterm_text.specs.Laws.{HasOneAnswer}
-use Rattle.aterm_text.specs.Machine.{State, state, Next, step, run, nothing, reading, ◌>>=◌}
+use Rattle.aterm_text.specs.inner.Machine.{State, state, Next, step, run, nothing, reading, ◌>>=◌}
 use Rattle.aterm_text.proofs.Runs.{run_on}
 use Rattle.aterm_text.proofs.Spelled.{Quoting, Means}
 use Rattle.aterm_text.proofs.Traces.{nothing_means, run_means, complete, sound}

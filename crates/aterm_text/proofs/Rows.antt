@@ -6,7 +6,7 @@ use Rattle.aterm_text.specs.declared.refusal.TermFaultKind.{TermFaultKind}
 use Rattle.aterm_text.specs.declared.refusal.TermFaultKind.TheVariants.{NotUtf8, Unexpected, Shared, Placeholder, Real, Blob, BadEscape, IntRange, TooDeep, TooMany}
 use Rattle.aterm_text.specs.Faults.{Begins, IsFault}
 use Rattle.aterm_text.specs.Grammar.{IsText}
-use Rattle.aterm_text.specs.Machine.{State, state, Next, step, run, finish, nothing, reading, ◌>>=◌}
+use Rattle.aterm_text.specs.inner.Machine.{State, state, Next, step, run, finish, nothing, reading, ◌>>=◌}
 use Rattle.aterm_text.proofs.Runs.{run_on}
 use Rattle.aterm_text.proofs.Limits.{same_err, unexpected_same, bind_err, run_free}
 use Rattle.aterm_text.proofs.Sound.{Between, Stops}

@@ -21,7 +21,7 @@ use Rattle.aterm_text.specs.declared.reader.state.Last.TheVariants as last
 use Rattle.aterm_text.specs.declared.refusal.TermFaultKind.TheVariants.{Real, Blob, TooDeep, TooMany, BadEscape}
 use Rattle.aterm_text.specs.Bytes.{class_of, is_in_symbol, begins_term, misplaced, is_plain, is_low_octal, is_octal, octal_value, short_escape, is_real_mark}
 use Rattle.aterm_text.specs.Grammar.{term, IsBlank, IsSymbol, IsEscape, short, octal, IsPiece, IsInside, IsQuoted, IsName, IsDigits, number_of, signed, sign_text, IsNumeral, IsI64}
-use Rattle.aterm_text.specs.Machine.{State, state, Next, limited, opened, begin_within, begin, after, after_body, comma, close_after, after_number, after_integer, in_quotes, escaped, in_one_octal, in_two_octals, step, step_by, run, ◌>>=◌}
+use Rattle.aterm_text.specs.inner.Machine.{State, state, Next, limited, opened, begin_within, begin, after, after_body, comma, close_after, after_number, after_integer, in_quotes, escaped, in_one_octal, in_two_octals, step, step_by, run, ◌>>=◌}
 use Rattle.aterm_text.specs.Numbers.{more_digits, with_digit, integer_within, integer_of}
 use Rattle.aterm_text.proofs.Classes.{class_quote, class_minus, class_parenthesis, class_brace, ends_number, not_real, not_colon, digit_high}
 

@@ -24,9 +24,9 @@ use Rattle.aterm_text.specs.declared.refusal.TermFaultKind.TheVariants.{NotUtf8,
 use Rattle.aterm_text.specs.Bytes.{class_of, is_in_symbol, begins_term, misplaced, is_real_mark, is_plain, is_low_octal, is_octal, octal_value, short_escape}
 use Rattle.aterm_text.specs.Faults.{Begins, IsHead, AreFollowed, no_item, item, IsDue, begun_in, StartsWith, is_digit, continues_number, EndsNumber, NumberBetween, BadEscapeBetween, StandsBetween}
 use Rattle.aterm_text.specs.Grammar.{term, IsBlank, IsSymbol, IsEscape, short, octal, IsPiece, IsInside, IsQuoted, IsName, IsDigits, number_of, signed, sign_text, IsNumeral, IsI64, IsTerm, bare, IsBody, symbol, text, number, AreTerms, none}
-use Rattle.aterm_text.specs.Machine.{State, state, Next, limited, opened, begin_within, begin, closed_as, close, comma, close_after, after, after_body, at_start, at_opening, after_name, in_symbol, in_quotes, escaped, in_escape, in_one_octal, in_two_octals, after_quotes, after_minus, after_integer, after_number, in_number, step_by}
+use Rattle.aterm_text.specs.inner.Machine.{State, state, Next, limited, opened, begin_within, begin, closed_as, close, comma, close_after, after, after_body, at_start, at_opening, after_name, in_symbol, in_quotes, escaped, in_escape, in_one_octal, in_two_octals, after_quotes, after_minus, after_integer, after_number, in_number, step_by}
 use Rattle.aterm_text.specs.Numbers.{with_digit, integer_of}
-use Rattle.aterm_text.specs.Open.{closing_byte_of, with_item}
+use Rattle.aterm_text.specs.inner.Open.{closing_byte_of, with_item}
 use Rattle.aterm_text.proofs.Classes.{is_byte_of, same_byte, digit_low}
 use Rattle.aterm_text.proofs.Sizes.{deepest, parts_of, size_term, depth_term, parts_apply, parts_int, parts_text, deepest_more, size_more}
 use Rattle.aterm_text.proofs.Runs.{NumberIs, IntegerIs, integer_is, capped_more, low_high, low_is_octal, low_first, octal_long, octal_high}

@@ -16,8 +16,8 @@ use Rattle.aterm_text.specs.declared.reader.state.Last.TheVariants as last
 use Rattle.aterm_text.specs.Bytes.{class_of, is_low_octal, is_octal}
 use Rattle.aterm_text.specs.Faults.{IsHead, AreFollowed, no_item, item, IsDue, opener_size, begun_in}
 use Rattle.aterm_text.specs.Grammar.{term, IsBlank, IsSymbol, IsInside, IsQuoted, IsDigits, number_of, sign_text, IsTerm, bare, annotated, IsBody, symbol, application, text, tuple, items, AreTerms, none, some, AreItems, single, further}
-use Rattle.aterm_text.specs.Machine.{State, state, closed_as}
-use Rattle.aterm_text.specs.Open.{closing_byte_of}
+use Rattle.aterm_text.specs.inner.Machine.{State, state, closed_as}
+use Rattle.aterm_text.specs.inner.Open.{closing_byte_of}
 use Rattle.aterm_text.proofs.Sizes.{deepest, parts_of, size_term, depth_term, parts_apply, parts_tuple, parts_items}
 use Rattle.aterm_text.proofs.Runs.{NumberIs}
 use Rattle.aterm_text.proofs.Complete.{body_size}

@@ -13,7 +13,7 @@ use Rattle.aterm_text.specs.declared.reader.state.Last.TheVariants as last
 use Rattle.aterm_text.specs.declared.refusal.TermFaultKind.{TermFaultKind}
 use Rattle.aterm_text.specs.Bytes.{class_of}
 use Rattle.aterm_text.specs.Grammar.{term, IsText, TermText}
-use Rattle.aterm_text.specs.Machine.{State, state, Next, in_quotes, step_by, step, run, ended_number, ended, outermost, finish, nothing, reading, ◌>>=◌}
+use Rattle.aterm_text.specs.inner.Machine.{State, state, Next, in_quotes, step_by, step, run, ended_number, ended, outermost, finish, nothing, reading, ◌>>=◌}
 use Rattle.aterm_text.specs.Numbers.{integer_of}
 use Rattle.aterm_text.proofs.Runs.{bound_ok, CanBegin, run_on, skip_before, skip_all, SkipsAll, body_of, whole_of, IsWhole, blank_whole}
 use Rattle.aterm_text.proofs.Complete.{Room, Reads, reads_term}

@@ -17,7 +17,7 @@ use Rattle.aterm_text.specs.declared.refusal.TermFaultKind.TheVariants.{Real, Bl
 use Rattle.std.specs.Str.{IsCharBoundary}
 use Rattle.aterm_text.specs.Bytes.{class_of, is_low_octal, is_octal, is_real_mark, short_escape}
 use Rattle.aterm_text.specs.Grammar.{IsEscape, short, octal, IsPiece, IsInside}
-use Rattle.aterm_text.specs.Machine.{State, state, Next, step_by, in_quotes, escaped, in_one_octal, in_two_octals, run, step, ◌>>=◌, after_integer, in_number}
+use Rattle.aterm_text.specs.inner.Machine.{State, state, Next, step_by, in_quotes, escaped, in_one_octal, in_two_octals, run, step, ◌>>=◌, after_integer, in_number}
 use Rattle.aterm_text.specs.Numbers.{integer_of}
 use Rattle.aterm_text.proofs.Classes.{is_byte_of, same_byte, digit_high}
 use Rattle.aterm_text.proofs.Lives.{with_byte}

@@ -1,9 +1,7 @@
-pub mod Answers
 pub mod Bytes
 pub mod Faults
 pub mod Grammar
+pub mod inner
 pub mod Laws
-pub mod Machine
 pub mod Numbers
-pub mod Open
 pub mod Written

@@ -1,6 +1,6 @@
 ghost use Rattle.std.specs.Prelude.{◌≡◌, reverse};
-ghost use Rattle.aterm_text.specs.Machine.{close, comma, close_after, opened};
-ghost use Rattle.aterm_text.specs.Answers.{Answers};
+ghost use Rattle.aterm_text.specs.inner.Machine.{close, comma, close_after, opened};
+ghost use Rattle.aterm_text.specs.inner.Answers.{Answers};
 
 use crate::open::{Open, Opener};
 use crate::reader::state::{Last, Reader};

@@ -1,5 +1,5 @@
 ghost use Rattle.std.specs.Prelude.{◌≡◌, []};
-ghost use Rattle.aterm_text.specs.Open.{closing_byte_of};
+ghost use Rattle.aterm_text.specs.inner.Open.{closing_byte_of};
 
 use flow_term::{Kind, List, Term, Text};
 

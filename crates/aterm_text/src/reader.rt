@@ -1,9 +1,9 @@
 //! The reader: one byte after the other, with what is open on a stack of its own.
 ghost use Rattle.std.specs.Prelude.{◌≡◌, ℕ, true, Err, IfOk, IsUtf8, Ok};
-ghost use Rattle.aterm_text.specs.Answers.{Answers, AnswersTerm, IsReady, IfFault, UnlessNoMemory, state_of, fault_of};
+ghost use Rattle.aterm_text.specs.inner.Answers.{Answers, AnswersTerm, IsReady, IfFault, UnlessNoMemory, state_of, fault_of};
 ghost use Rattle.aterm_text.specs.Faults.{TermFaulty};
 ghost use Rattle.aterm_text.specs.Grammar.{TermText};
-ghost use Rattle.aterm_text.specs.Machine.{reading, step};
+ghost use Rattle.aterm_text.specs.inner.Machine.{reading, step};
 
 mod atoms;
 mod quotes;

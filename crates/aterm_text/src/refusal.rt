@@ -47,7 +47,7 @@ impl From<AllocError> for TermRefusal {
 
 impl TermRefusal {
     ghost use Rattle.std.specs.Prelude.{◌≡◌};
-    ghost use Rattle.aterm_text.specs.Answers.{fault_of};
+    ghost use Rattle.aterm_text.specs.inner.Answers.{fault_of};
 
     pub fn fault(offset: u64, kind: TermFaultKind) -> TermRefusal
         ensures { result ≡ fault_of offset kind }

@@ -14,7 +14,7 @@ use Rattle.flow_syntax.specs.declared.property.Mode.TheVariants as mode
 use Rattle.flow_syntax.specs.declared.spec.Named.{Named}
 use Rattle.flow_syntax.specs.declared.spec.Spec.{Spec}
 use Rattle.flow_syntax.specs.declared.tables.FunctionDecl.{FunctionDecl}
-use Rattle.flow_syntax.specs.Telling.{function_named}
+use Rattle.flow_syntax.specs.Inferred.{function_named}
 use Rattle.flow_term.specs.declared.elem.Elem.TheVariants as elem
 use Rattle.std.specs.Int.{int_wrapping_neg}
 use mir.Syntax.{w64}

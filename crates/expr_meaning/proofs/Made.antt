@@ -13,7 +13,7 @@ use Rattle.flow_syntax.specs.declared.spec.Spec.{Spec}
 use Rattle.flow_syntax.specs.declared.tables.EnumDecl.{EnumDecl}
 use Rattle.flow_syntax.specs.Expressions.{ExprLayer, expr_layer, parts_in, parts_of}
 use Rattle.flow_syntax.specs.Parts.{part}
-use Rattle.flow_syntax.specs.Telling.{enum_with}
+use Rattle.flow_syntax.specs.Inferred.{enum_with}
 use Rattle.flow_syntax.specs.Types.{Sort}
 use Rattle.flow_syntax.proofs.Parts.{given_layer, by_parts_out, by_induction}
 use Rattle.value_domains.specs.Values.{IsOfSort, map_in}

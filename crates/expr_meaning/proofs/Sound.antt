@@ -17,7 +17,7 @@ use Rattle.flow_syntax.specs.declared.tables.EnumDecl.{EnumDecl}
 use Rattle.flow_syntax.specs.declared.tables.FunctionDecl.{FunctionDecl}
 use Rattle.flow_syntax.specs.Expressions.{ExprLayer, expr_layer, parts_in, parts_of}
 use Rattle.value_domains.specs.Values.{union_of, intersection_of, IsOfSort, form_has_sort}
-use Rattle.flow_syntax.specs.Telling.{enum_with, function_named}
+use Rattle.flow_syntax.specs.Inferred.{enum_with, function_named}
 use Rattle.flow_syntax.specs.Types.{Sort, int_sort, str_sort, enum_sort}
 use Rattle.value_domains.specs.Lawful.{IsLawful}
 use Rattle.value_domains.specs.inner.DomainLaws.{domain_laws}

@@ -6,7 +6,7 @@ use Rattle.flow_syntax.specs.declared.expr.Expr.{Expr}
 use Rattle.flow_syntax.specs.declared.spec.Spec.{Spec}
 use Rattle.flow_syntax.specs.declared.tables.FunctionDecl.{FunctionDecl}
 use Rattle.flow_syntax.specs.Expressions.{expressions_of}
-use Rattle.flow_syntax.specs.Telling.{function_named}
+use Rattle.flow_syntax.specs.Inferred.{function_named}
 use Rattle.flow_syntax.specs.Types.{Typing}
 use Rattle.expr_meaning.specs.Ranges.{Range, domain_in}
 use Rattle.value_domains.specs.Lawful.{IsLawful}

@@ -11,7 +11,7 @@ use Rattle.flow_syntax.specs.declared.expr.Side.{Side}
 use Rattle.flow_syntax.specs.declared.spec.Spec.{Spec}
 use Rattle.flow_syntax.specs.declared.tables.EnumDecl.{EnumDecl}
 use Rattle.flow_syntax.specs.Expressions.{expr_layer, parts_of}
-use Rattle.flow_syntax.specs.Telling.{enum_with}
+use Rattle.flow_syntax.specs.Inferred.{enum_with}
 use Rattle.value_domains.specs.Domains.{Domain, may, must, flat, map_to, pair_of, listed}
 use Rattle.value_domains.specs.Values.{ValueLayer, elems_in, map_in, left_in, right_in}
 use Rattle.expr_meaning.specs.Meaning.{Meaning, Situation, Usable, elem_in, value_in, bound_to}

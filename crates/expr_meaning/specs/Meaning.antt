@@ -24,7 +24,7 @@ use Rattle.flow_syntax.specs.declared.spec.Named.{Named}
 use Rattle.flow_syntax.specs.declared.spec.Spec.{Spec}
 use Rattle.flow_syntax.specs.declared.tables.FunctionDecl.{FunctionDecl}
 use Rattle.value_domains.specs.Values.{ValueLayer, union_of, intersection_of, has_elem, elems_in, map_in, left_in, right_in, entries_of, value_at, joined_to, value_or}
-use Rattle.flow_syntax.specs.Telling.{enum_with, function_named}
+use Rattle.flow_syntax.specs.Inferred.{enum_with, function_named}
 use Rattle.expr_meaning.specs.Ranges.{Range, domain_in}
 use Rattle.value_domains.specs.Domains.{Domain, may, must, flat, map_to, pair_of, listed, table_named, texts_of, place_in, least_of, joined_of, item_in}
 use Rattle.flow_syntax.specs.Parts.{Part, PartLayer, by_parts}

@@ -11,7 +11,7 @@ use Rattle.flow_syntax.specs.declared.spec.Named.{Named}
 use Rattle.flow_syntax.specs.declared.spec.Spec.{Spec}
 use Rattle.flow_syntax.specs.declared.tables.EnumDecl.{EnumDecl}
 use Rattle.flow_syntax.specs.declared.tables.FunctionDecl.{FunctionDecl}
-use Rattle.flow_syntax.specs.Telling.{function_named, enum_with}
+use Rattle.flow_syntax.specs.Inferred.{function_named, enum_with}
 use Rattle.flow_syntax.specs.Expressions.{ExprLayer, expr_layer}
 use Rattle.value_domains.specs.Values.{IsOfSort}
 use Rattle.flow_syntax.specs.Types.{Sort, int_sort, str_sort, pair_sort, enum_sort}

@@ -5,8 +5,8 @@ use Rattle.std.proofs.lemmas.Option.{same_Some}
 use Rattle.flow_term.specs.declared.term.Term.{Term}
 use Rattle.aterm_text.proofs.Reading.{one_answer}
 use Rattle.aterm_text.specs.Grammar.{TermText}
-use Rattle.grammar.specs.Faults.{IsText}
-use Rattle.grammar.specs.declared.Cause.{Cause}
+use Rattle.grammar_theory.specs.Faults.{IsText}
+use Rattle.grammar_theory.specs.declared.Cause.{Cause}
 use Rattle.spec_grammar.proofs.Wholes.{all_only, all_fault_only}
 use Rattle.spec_grammar.specs.Symbols.{Whole}
 use Rattle.spec_grammar.specs.Syntax.{spec_syntax, nesting_limit}

@@ -2,7 +2,7 @@
 use Rattle.std.proofs.Common.{ℕ, List, Option, Some, None, refl, sym, subst}
 use Rattle.flow_term.specs.declared.term.Term.{Term}
 use Rattle.aterm_text.specs.Grammar.{TermText}
-use Rattle.grammar.specs.Faults.{IsText}
+use Rattle.grammar_theory.specs.Faults.{IsText}
 use Rattle.spec_grammar.specs.Symbols.{Whole}
 use Rattle.spec_grammar.specs.Syntax.{spec_syntax, nesting_limit}
 use Rattle.flow_syntax.specs.declared.signature.Signature.{Signature}

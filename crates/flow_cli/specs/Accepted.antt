@@ -6,9 +6,9 @@ use Rattle.aterm_text.specs.declared.refusal.TermFaultKind.{TermFaultKind}
 use Rattle.aterm_text.specs.declared.refusal.TermFaultKind.TheVariants as terms
 use Rattle.aterm_text.specs.Faults.{TermFaulty}
 use Rattle.aterm_text.specs.Grammar.{TermText}
-use Rattle.grammar.specs.Faults.{IsText}
-use Rattle.grammar.specs.declared.Cause.{Cause}
-use Rattle.grammar.specs.declared.Cause.TheVariants as syntax
+use Rattle.grammar_theory.specs.Faults.{IsText}
+use Rattle.grammar_theory.specs.declared.Cause.{Cause}
+use Rattle.grammar_theory.specs.declared.Cause.TheVariants as syntax
 use Rattle.spec_grammar.specs.Symbols.{Whole}
 use Rattle.spec_grammar.specs.Syntax.{spec_syntax, nesting_limit}
 use Rattle.flow_syntax.specs.declared.fault.SpecFaultKind.{SpecFaultKind}

@@ -13,7 +13,7 @@ use Rattle.flow_syntax.specs.declared.spec.Spec.{Spec}
 use Rattle.flow_syntax.specs.Control.{entered_below, enters_child, rule_for}
 use Rattle.flow_syntax.specs.Graph.{LinksAt, IsLink, below}
 use Rattle.flow_links.specs.Below.{Adds, LinksBelow, LinksInChildren}
-use Rattle.flow_links.specs.Marks.{AreMarks}
+use Rattle.flow_links.specs.inner.Marks.{AreMarks}
 
 -- one addition after another
 pub Adds-then : {old mid new : List Link} {P Q : Point → Point → Type 0} → Adds old mid P → Adds mid new Q → Adds old new (λ a b. P a b ⊎ Q a b)

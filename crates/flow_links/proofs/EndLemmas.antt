@@ -22,7 +22,7 @@ use Rattle.flow_syntax.specs.Control.{rule_for, entered_at, argument, HasLongCha
 use Rattle.flow_syntax.specs.Graph.{IsLink, IsNode, IsInner, LinksAt, in_chain, through_empty, into_first, to_next, from_last, through_other, leaving, arriving, point_of, point_of_kind, below}
 use Rattle.flow_syntax.proofs.Matches.{found_among}
 use Rattle.flow_links.specs.Below.{link}
-use Rattle.flow_links.specs.Ends.{IsEnd}
+use Rattle.flow_links.specs.inner.Ends.{IsEnd}
 use Rattle.flow_links.proofs.SetLemmas.{none_in_nil}
 
 inner_kind : (k : NodeKind) (p : List ℕ) → IsInner (point_of_kind k p) → ⊥

@@ -16,7 +16,7 @@ use Rattle.flow_term.specs.Annotations.{term_layer}
 use Rattle.flow_syntax.specs.Matching.{is_list}
 use Rattle.flow_syntax.specs.Graph.{arriving, leaving, below, LinksAt, in_chain, through_empty, through_other}
 use Rattle.flow_links.specs.Below.{Adds}
-use Rattle.flow_links.specs.Here.{PairsBelow, ChainsOf, RuleLinks, NextBelow, ListLinks, no_items, into_first, to_next, from_last, EnteredLinks, of_list, of_other}
+use Rattle.flow_links.specs.inner.Here.{PairsBelow, ChainsOf, RuleLinks, NextBelow, ListLinks, no_items, into_first, to_next, from_last, EnteredLinks, of_list, of_other}
 
 -- nothing is added where nothing is to be
 pub Adds-none : {P : Point → Point → Type 0} (xs : List Link) → ((a b : Point) → ¬ P a b) → Adds xs xs P

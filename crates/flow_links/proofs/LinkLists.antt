@@ -8,7 +8,7 @@ use Rattle.flow_syntax.specs.declared.spec.Spec.{Spec}
 use Rattle.flow_syntax.specs.declared.spec.TypedSpec.{TypedSpec}
 use Rattle.flow_syntax.specs.Graph.{IsLink, IsNode}
 use Rattle.flow_syntax.proofs.BoundItems.{bound_items}
-use Rattle.flow_links.specs.Ends.{AreLinks, IsEnd}
+use Rattle.flow_links.specs.inner.Ends.{AreLinks, IsEnd}
 use Rattle.flow_links.proofs.EndLemmas.{ends_are_nodes}
 
 -- a slice of the list of the links has exactly the links

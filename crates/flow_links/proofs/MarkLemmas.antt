@@ -1,7 +1,7 @@
 -- What marks gain.
 use Rattle.std.proofs.Common.{◌≡◌, ℕ, ◌<◌, Bool, false, ◌||◌, List, length, get_or, refl, sym, ap, ◌∙◌, arith}
 use Rattle.std.proofs.Math.Bool.{or-false, or_assoc}
-use Rattle.flow_links.specs.Marks.{Marks}
+use Rattle.flow_links.specs.inner.Marks.{Marks}
 
 -- nothing is marked
 pub Marks-none : (marks : List Bool) (p : ℕ → Bool) → ((k : ℕ) → k < length marks → p k ≡ false) → Marks marks marks p

@@ -10,8 +10,8 @@ use Rattle.std.proofs.lemmas.Map.Steps.{length-le_from_distinct_below}
 use Rattle.indexmap.specs.IndexSet.{insert_key}
 use Rattle.indexmap.proofs.CallerLemmas.{Contains-list_any}
 use Rattle.flow_term.specs.declared.graph.Point.{Point}
-use Rattle.flow_links.specs.Gains.{Gains}
-use Rattle.flow_links.specs.Reach.{IsArrow, IsInnerAt, Leads, by_arrow, over}
+use Rattle.flow_links.specs.inner.Gains.{Gains}
+use Rattle.flow_links.specs.inner.Reach.{IsArrow, IsInnerAt, Leads, by_arrow, over}
 use Rattle.flow_links.proofs.EndLemmas.{contains_at}
 use Rattle.flow_links.proofs.SetLemmas.{none_in_nil, Gains-same, Gains-then}
 

@@ -1,7 +1,2 @@
 pub mod Below
-pub mod Ends
-pub mod Gains
-pub mod Here
-pub mod Marks
-pub mod Numbers
-pub mod Reach
+pub mod inner

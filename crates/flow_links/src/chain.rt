@@ -3,7 +3,7 @@ ghost use Rattle.std.specs.Prelude.{◌≡◌, Some, OnOk, length};
 ghost use Rattle.flow_syntax.specs.Control.{HasSmallHead};
 ghost use Rattle.flow_syntax.specs.Graph.{arriving, leaving};
 ghost use Rattle.flow_links.specs.Below.{Adds};
-ghost use Rattle.flow_links.specs.Here.{PairsBelow, ChainsOf};
+ghost use Rattle.flow_links.specs.inner.Here.{PairsBelow, ChainsOf};
 
 use crate::link_set::LinkSet;
 use crate::points::{arriving_point, leaving_point};

@@ -5,10 +5,10 @@ ghost use Rattle.flow_term.specs.declared.graph.Edge.{Edge as EdgeValue};
 ghost use Rattle.flow_term.specs.Orders.{edge_cmp};
 ghost use Rattle.flow_term.specs.Trees.{term_size};
 ghost use Rattle.flow_syntax.specs.Graph.{IsEdge, point_of};
-ghost use Rattle.flow_links.specs.Ends.{AreEdgesBy};
-ghost use Rattle.flow_links.specs.Gains.{Gains};
-ghost use Rattle.flow_links.specs.Numbers.{IsEdgeBelow, IsEdgeFrom, IsEdgeTo};
-ghost use Rattle.flow_links.specs.Reach.{IsArrow};
+ghost use Rattle.flow_links.specs.inner.Ends.{AreEdgesBy};
+ghost use Rattle.flow_links.specs.inner.Gains.{Gains};
+ghost use Rattle.flow_links.specs.inner.Numbers.{IsEdgeBelow, IsEdgeFrom, IsEdgeTo};
+ghost use Rattle.flow_links.specs.inner.Reach.{IsArrow};
 
 use crate::collect::links;
 use crate::nodes::node_at;

@@ -9,7 +9,7 @@ ghost use Rattle.flow_syntax.specs.Control.{HasSmallHead};
 ghost use Rattle.flow_syntax.specs.Graph.{LinksAt, below};
 ghost use Rattle.flow_syntax.specs.Matching.{is_list};
 ghost use Rattle.flow_links.specs.Below.{Adds};
-ghost use Rattle.flow_links.specs.Here.{EnteredLinks, ListLinks, NextBelow, RuleLinks};
+ghost use Rattle.flow_links.specs.inner.Here.{EnteredLinks, ListLinks, NextBelow, RuleLinks};
 
 use crate::chain::add_chains;
 use crate::link_set::LinkSet;

@@ -5,8 +5,8 @@ ghost use Rattle.flow_term.specs.declared.graph.Node.{Node as NodeValue};
 ghost use Rattle.flow_term.specs.Orders.{node_cmp};
 ghost use Rattle.flow_term.specs.Trees.{term_size};
 ghost use Rattle.flow_syntax.specs.Graph.{IsInner, IsNode, point_of};
-ghost use Rattle.flow_links.specs.Ends.{IsEnd};
-ghost use Rattle.flow_links.specs.Gains.{Gains};
+ghost use Rattle.flow_links.specs.inner.Ends.{IsEnd};
+ghost use Rattle.flow_links.specs.inner.Gains.{Gains};
 
 use crate::collect::links;
 use crate::ordered_set::{add, in_order};

@@ -1,8 +1,8 @@
 //! Points by numbers, so that ways between them are found without comparing points.
 ghost use Rattle.std.specs.Prelude.{◌≡◌, ◌<◌, ◌∷◌, ◌++◌, [], List as Sequence, IfOk, OnOk, Some, length, slice_get, slice_set};
 ghost use Rattle.flow_term.specs.declared.graph.Link.{Link as LinkValue};
-ghost use Rattle.flow_links.specs.Numbers.{IsGraphOf, IsNumbered};
-ghost use Rattle.flow_links.specs.Reach.{row};
+ghost use Rattle.flow_links.specs.inner.Numbers.{IsGraphOf, IsNumbered};
+ghost use Rattle.flow_links.specs.inner.Reach.{row};
 
 use flow_term::{Link, List, Point};
 use indexmap::IndexSet;

@@ -1,7 +1,7 @@
 //! A set whose items come out in order.
 ghost use Rattle.std.specs.Prelude.{◌≡◌, IfOk, OnOk};
 ghost use Rattle.std.specs.List.Sorted.{IsStrictlySortedBy};
-ghost use Rattle.flow_links.specs.Gains.{Gains};
+ghost use Rattle.flow_links.specs.inner.Gains.{Gains};
 
 use flow_term::{Element, List};
 use std::alloc::{AllocError, Global};

@@ -1,8 +1,8 @@
 //! What can be reached from a point over `In` and `Out` points.
 ghost use Rattle.std.specs.Prelude.{◌≡◌, ◌<◌, ◌++◌, [], ℕ, List as Sequence, Contains, IfOk, OnOk, IsTrue, ◌↔◌, length};
 ghost use Rattle.flow_syntax.specs.Graph.{IsInner};
-ghost use Rattle.flow_links.specs.Gains.{Gains};
-ghost use Rattle.flow_links.specs.Reach.{IsArrow, IsInnerAt, Leads, row};
+ghost use Rattle.flow_links.specs.inner.Gains.{Gains};
+ghost use Rattle.flow_links.specs.inner.Reach.{IsArrow, IsInnerAt, Leads, row};
 
 use crate::numbers::PointGraph;
 use flow_term::Point;

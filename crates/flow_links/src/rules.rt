@@ -5,7 +5,7 @@ ghost use Rattle.std.specs.Option.{option_copied, option_map_or};
 ghost use Rattle.flow_term.specs.Trees.{children};
 ghost use Rattle.flow_syntax.specs.Matching.{matches, pattern_layer};
 ghost use Rattle.flow_syntax.specs.Control.{argument, arguments_in, enters_argument, enters_child, is_variable_in, rule_for};
-ghost use Rattle.flow_links.specs.Marks.{AreMarks, Marks, entered_by};
+ghost use Rattle.flow_links.specs.inner.Marks.{AreMarks, Marks, entered_by};
 
 use crate::matching::is_match;
 use flow_syntax::{Chain, FlowRule, Item, ItemKind, Pattern, PatternKind, Spec};

@@ -17,8 +17,8 @@ use Rattle.expr_meaning.specs.Ranges.{Range, range_of}
 use Rattle.flow_modes.specs.declared.check.ModeFault.{ModeFault}
 use Rattle.flow_modes.specs.Modes.{is_refused, typed_ranges, HaveGoodModes, body_fault, first_fault_by, first_mode_fault}
 use Rattle.flow_modes.specs.inner.Walked.{AgreeWith, IsWalked, bodies_in}
-use Rattle.expr_types.proofs.Clean.{at_each}
-use Rattle.expr_types.proofs.Kept.{types_kept}
+use Rattle.expr_typing.proofs.Clean.{at_each}
+use Rattle.expr_typing.proofs.Kept.{types_kept}
 use Rattle.typed_bodies.proofs.Good.{agree}
 use Rattle.flow_modes.proofs.Walks.{agree_split}
 

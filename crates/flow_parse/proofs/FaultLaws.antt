@@ -2,15 +2,15 @@
 use Rattle.std.proofs.Common.{◌≡◌, ℕ, List, Result, Ok, Err, sym, ap, ◌∙◌}
 use Rattle.flow_syntax.specs.declared.spec.Spec.{Spec}
 use Rattle.flow_syntax.specs.declared.token.Token.{Token}
-use Rattle.grammar.specs.Faults.{IsText}
-use Rattle.grammar.specs.declared.Cause.{Cause}
+use Rattle.grammar_theory.specs.Faults.{IsText}
+use Rattle.grammar_theory.specs.declared.Cause.{Cause}
 use Rattle.spec_grammar.proofs.Wholes.{all_only, all_fault, all_fault_only}
 use Rattle.spec_grammar.specs.Reading.{reads_all}
 use Rattle.spec_grammar.specs.Symbols.{Whole}
 use Rattle.spec_grammar.specs.Syntax.{spec_syntax, nesting_limit}
-use Rattle.token_scan.specs.Gives.{Fails}
-use Rattle.token_scan.specs.declared.scan.Refusal.{Refusal}
-use Rattle.token_scan.specs.declared.scan.Refusal.TheVariants as scanned
+use Rattle.spec_grammar.specs.Gives.{Fails}
+use Rattle.spec_grammar.specs.declared.cursor.Refusal.{Refusal}
+use Rattle.spec_grammar.specs.declared.cursor.Refusal.TheVariants as scanned
 use Rattle.flow_parse.specs.Faults.{IfFault, IsFaultAt, IsFaultedAs, IsParsedAs, Tells, first_place}
 use Rattle.flow_parse.specs.declared.refusal.ParseRefusal.{ParseRefusal}
 use Rattle.flow_parse.specs.declared.refusal.ParseRefusal.TheVariants as refusals

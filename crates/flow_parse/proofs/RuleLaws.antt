@@ -2,8 +2,8 @@
 use Rattle.std.proofs.Common.{◌≡◌, true, List, [], ◌∷◌, ◌++◌, Ok, refl, ◌∙◌, arith}
 use Rattle.flow_syntax.specs.declared.message.Part.{Part as MessagePart}
 use Rattle.flow_syntax.specs.declared.token.Token.{Token}
-use Rattle.grammar.specs.Reading.{Outcome, ◌>>=◌}
-use Rattle.grammar.specs.Texts.{Symbol}
+use Rattle.grammar_theory.specs.Reading.{Outcome, ◌>>=◌}
+use Rattle.grammar_theory.specs.Texts.{Symbol}
 use Rattle.spec_grammar.proofs.Listings.{more_listed, listed_at, listed_turn}
 use Rattle.spec_grammar.proofs.Turns.{starts}
 use Rattle.spec_grammar.proofs.Unrolled.{reads_at, one_at, one_of_at, bind_bind}
@@ -14,7 +14,7 @@ use Rattle.spec_grammar.specs.Rules.{condition, level_of, message_parts, part_of
 use Rattle.spec_grammar.specs.Symbols.{AMessage, APattern, ARule, ATrigger}
 use Rattle.spec_grammar.specs.declared.kind.Kind.{Kind}
 use Rattle.spec_grammar.specs.declared.kind.Kind.TheVariants as kinds
-use Rattle.flow_parse.specs.Parts.{parts_of}
+use Rattle.flow_parse.specs.inner.Parts.{parts_of}
 
 pub rule_at : (ts : List Token)
     → reads 0 ARule ts ≡ (reads_as 0 identifier named ts >>= λ n. reads_as 0 (in_round (Symbol ATrigger)) inside n.1 >>= λ t. reads_as 0 (expr_after kinds.Is) (λ x. x.1) t.1

@@ -2,8 +2,8 @@
 use Rattle.std.proofs.Common.{◌≡◌, ◌<◌, true, false, List, [], ◌∷◌, ◌++◌, length, Ok, Err, refl, sym, ap}
 use Rattle.std.proofs.lemmas.List.{map-id}
 use Rattle.flow_syntax.specs.declared.token.Token.{Token}
-use Rattle.grammar.specs.Reading.{Outcome, ◌>>=◌, starts_with}
-use Rattle.grammar.specs.Texts.{Many, Symbol}
+use Rattle.grammar_theory.specs.Reading.{Outcome, ◌>>=◌, starts_with}
+use Rattle.grammar_theory.specs.Texts.{Many, Symbol}
 use Rattle.spec_grammar.proofs.Turns.{each_turn, each_end, starts}
 use Rattle.spec_grammar.proofs.Unrolled.{one_at, bind_bind, added, reads_take}
 use Rattle.spec_grammar.specs.Kinds.{kind_of}

@@ -4,16 +4,16 @@ use Rattle.std.specs.Prelude.{◌==◌}
 use Rattle.std.proofs.lemmas.Bool.Decides.{nat_tests}
 use Rattle.flow_syntax.specs.declared.spec.Spec.{Spec}
 use Rattle.flow_syntax.specs.declared.token.Token.{Token}
-use Rattle.grammar.specs.Reading.{Outcome, ◌>>=◌, ended, read_in_turn}
-use Rattle.grammar.specs.declared.Cause.TheVariants.{Unexpected}
-use Rattle.grammar.specs.Texts.{Optional, Symbol}
+use Rattle.grammar_theory.specs.Reading.{Outcome, ◌>>=◌, ended, read_in_turn}
+use Rattle.grammar_theory.specs.declared.Cause.TheVariants.{Unexpected}
+use Rattle.grammar_theory.specs.Texts.{Optional, Symbol}
 use Rattle.spec_grammar.proofs.Unrolled.{reads_at, one_at, bind_bind}
 use Rattle.spec_grammar.specs.Parts.{named}
 use Rattle.spec_grammar.specs.Reading.{reads, reads_all, reads_as, reads_part}
 use Rattle.spec_grammar.specs.Symbols.{Whole, ASignature, AnEnum}
 use Rattle.spec_grammar.specs.Whole.{make_whole, section, section_of, sections_after_sorts}
 use Rattle.spec_grammar.specs.declared.kind.Kind.TheVariants as kinds
-use Rattle.flow_parse.specs.Parts.{body_of, module_name, spec_of}
+use Rattle.flow_parse.specs.inner.Parts.{body_of, module_name, spec_of}
 
 -- what is made of the value that is read
 abbrev made : {X Y : Type 0} → (X → Y) → Outcome Token X → Outcome Token Y

@@ -1,8 +1,8 @@
 -- Declarations of one kind: what the grammar calls them, and how they are read.
 use Rattle.std.specs.Prelude.{ℕ, List}
 use Rattle.flow_syntax.specs.declared.token.Token.{Token}
-use Rattle.grammar.specs.Reading.{Outcome}
-use Rattle.grammar.specs.Texts.{Optional}
+use Rattle.grammar_theory.specs.Reading.{Outcome}
+use Rattle.grammar_theory.specs.Texts.{Optional}
 use Rattle.spec_grammar.proofs.Turns.{more_of}
 use Rattle.spec_grammar.specs.Choice.{begins}
 use Rattle.spec_grammar.specs.Reading.{reads, reads_as}

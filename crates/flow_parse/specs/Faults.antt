@@ -6,13 +6,13 @@ use Rattle.flow_parse.specs.declared.refusal.ParseRefusal.{ParseRefusal}
 use Rattle.flow_parse.specs.declared.refusal.ParseRefusal.TheVariants as refusals
 use Rattle.flow_syntax.specs.declared.spec.Spec.{Spec}
 use Rattle.flow_syntax.specs.declared.token.Token.{Token}
-use Rattle.grammar.specs.Faults.{IsFirstFault}
-use Rattle.grammar.specs.declared.Cause.{Cause}
-use Rattle.grammar.specs.declared.Cause.TheVariants as causes
+use Rattle.grammar_theory.specs.Faults.{IsFirstFault}
+use Rattle.grammar_theory.specs.declared.Cause.{Cause}
+use Rattle.grammar_theory.specs.declared.Cause.TheVariants as causes
 use Rattle.spec_grammar.specs.Symbols.{Whole}
 use Rattle.spec_grammar.specs.Syntax.{spec_syntax, nesting_limit}
-use Rattle.token_scan.specs.declared.scan.Refusal.{Refusal}
-use Rattle.token_scan.specs.declared.scan.Refusal.TheVariants as scanned
+use Rattle.spec_grammar.specs.declared.cursor.Refusal.{Refusal}
+use Rattle.spec_grammar.specs.declared.cursor.Refusal.TheVariants as scanned
 
 -- the place of the first token
 abbrev pub first_place : List Token → ℕ

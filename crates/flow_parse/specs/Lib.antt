@@ -1,3 +1,3 @@
 pub mod Declarations
 pub mod Faults
-pub mod Parts
+pub mod inner

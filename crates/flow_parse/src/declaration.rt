@@ -3,16 +3,15 @@ ghost use Rattle.std.specs.Prelude.{◌≡◌, map};
 ghost use Rattle.flow_parse.specs.Declarations.{SymbolOf, begins_as, reads_one, the_symbol};
 ghost use Rattle.spec_grammar.specs.Kinds.{code_of};
 ghost use Rattle.spec_grammar.specs.Symbols.{AControlRule, AFunction, AMessage, AProperty, ARule, ATable, AnEnum};
-ghost use Rattle.token_scan.specs.Gives.{Gives};
+ghost use Rattle.spec_grammar.specs.Gives.{Gives};
 
 use crate::message::read_message;
 use crate::rule::read_rule;
 use flow_syntax::{EnumDecl, FlowRule, FunctionDecl, Message, PropDecl, PropRule, TableDecl};
-use parse_patterns::read_control_rule;
-use parse_types::{read_enum, read_function, read_property, read_table};
-use spec_grammar::Kind;
+use parse_decls::{read_enum, read_function, read_property, read_table};
+use parse_rules::read_control_rule;
+use spec_grammar::{Cursor, Kind, Read};
 use std::alloc::Global;
-use token_scan::{Cursor, Read};
 
 /// What a section declares.
 pub trait Declaration: Drop {

@@ -5,16 +5,15 @@ ghost use Rattle.spec_grammar.specs.Kinds.{code_of, kind_of};
 ghost use Rattle.spec_grammar.specs.Reading.{reads, reads_as};
 ghost use Rattle.spec_grammar.specs.Rules.{level_of, message_parts, part_of};
 ghost use Rattle.spec_grammar.specs.Symbols.{AMessage};
-ghost use Rattle.token_scan.specs.Gives.{Gives};
-ghost use Rattle.flow_parse.specs.Parts.{further_part, part_behind, parts_of};
+ghost use Rattle.spec_grammar.specs.Gives.{Gives};
+ghost use Rattle.flow_parse.specs.inner.Parts.{further_part, part_behind, parts_of};
 
 use flow_syntax::{Level, Message, Part, Token};
 use flow_term::List;
 use parse_exprs::condition;
-use parse_patterns::read_pattern;
-use spec_grammar::Kind;
+use parse_rules::read_pattern;
+use spec_grammar::{Cursor, Kind, Read, named, text_of};
 use std::alloc::{AllocError, Global};
-use token_scan::{Cursor, Read, named, text_of};
 
 /// What the word of a level stands for, by its kind.
 fn level_of(token: &Token, kind: Kind) -> Level

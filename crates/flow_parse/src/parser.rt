@@ -4,22 +4,21 @@ ghost use Rattle.flow_parse.specs.Faults.{IfFault, IsFaultAt, IsFaultedAs, IsPar
 ghost use Rattle.flow_syntax.specs.Accepted.{HasIdentifierTokens, HasIdentifiers, IsWellFormed};
 ghost use Rattle.flow_syntax.specs.Tokens.{HasRisingPlaces};
 ghost use Rattle.flow_syntax.specs.declared.spec.Spec.{Spec as TheSpec};
-ghost use Rattle.grammar.specs.Faults.{IsText};
-ghost use Rattle.grammar.specs.declared.Cause.{Cause as TheCause};
+ghost use Rattle.grammar_theory.specs.Faults.{IsText};
+ghost use Rattle.grammar_theory.specs.declared.Cause.{Cause as TheCause};
 ghost use Rattle.spec_grammar.specs.Kinds.{code_of, kind_of};
 ghost use Rattle.spec_grammar.specs.Reading.{reads_all};
 ghost use Rattle.spec_grammar.specs.Symbols.{Whole};
 ghost use Rattle.spec_grammar.specs.Syntax.{nesting_limit, spec_syntax};
-ghost use Rattle.token_scan.specs.Gives.{GivesAll};
+ghost use Rattle.spec_grammar.specs.Gives.{GivesAll};
 
 use crate::refusal::{ParseFaultKind, ParseRefusal};
 use crate::whole::read_spec;
 use flow_syntax::{Spec, Token};
 use flow_term::List;
-use grammar::Cause;
-use spec_grammar::Kind;
+use grammar_theory::Cause;
+use spec_grammar::{Cursor, Kind, Refusal, kinds_of};
 use std::alloc::Global;
-use token_scan::{Cursor, Refusal, kinds_of};
 
 /// The specification that all of the tokens are.
 fn read_all<'a>(alloc: Global, tokens: &'a [Token], kinds: &'a [Kind]) -> Result<Spec, Refusal<'a>>

@@ -1,19 +1,18 @@
 //! Rules of properties.
-ghost use Rattle.grammar.specs.Texts.{Symbol};
+ghost use Rattle.grammar_theory.specs.Texts.{Symbol};
 ghost use Rattle.spec_grammar.specs.Expressions.{expr_after};
 ghost use Rattle.spec_grammar.specs.Parts.{in_round, inside};
 ghost use Rattle.spec_grammar.specs.Reading.{reads, reads_as};
 ghost use Rattle.spec_grammar.specs.Symbols.{ARule, ATrigger};
 ghost use Rattle.spec_grammar.specs.declared.kind.Kind.TheVariants as kinds;
-ghost use Rattle.token_scan.specs.Gives.{Gives};
+ghost use Rattle.spec_grammar.specs.Gives.{Gives};
 
 use flow_syntax::{Expr, PropRule, Trigger};
+use parse_decls::read_name;
 use parse_exprs::expr;
-use parse_patterns::read_trigger;
-use parse_types::read_name;
-use spec_grammar::Kind;
+use parse_rules::read_trigger;
+use spec_grammar::{Cursor, Kind, Read};
 use std::alloc::Global;
-use token_scan::{Cursor, Read};
 
 /// A rule of a property: its name, its trigger in parentheses, an equals sign and its body.
 pub fn read_rule(alloc: Global, cursor: Cursor<'_>) -> Read<'_, PropRule>

@@ -1,22 +1,21 @@
 //! The sections of a specification that hold declarations: a word, and none or more of them. A section that is left out is empty.
 ghost use Rattle.std.specs.Prelude.{[]};
 ghost use Rattle.flow_parse.specs.Declarations.{reads_further, reads_optional_section, reads_section};
-ghost use Rattle.grammar.specs.Texts.{Optional, Symbol};
+ghost use Rattle.grammar_theory.specs.Texts.{Optional, Symbol};
 ghost use Rattle.spec_grammar.specs.Reading.{reads_as, reads_part};
 ghost use Rattle.spec_grammar.specs.Symbols.{AControlRule, AFunction, AMessage, AProperty, ARule, ASignature, ATable, AnEnum};
 ghost use Rattle.spec_grammar.specs.Whole.{section, section_of};
 ghost use Rattle.spec_grammar.specs.declared.kind.Kind.TheVariants as kinds;
-ghost use Rattle.token_scan.specs.Gives.{Gives};
+ghost use Rattle.spec_grammar.specs.Gives.{Gives};
 
 use crate::declaration::Declaration;
 use flow_syntax::{
     EnumDecl, FlowRule, FunctionDecl, Message, PropDecl, PropRule, Signature, TableDecl,
 };
 use flow_term::List;
-use parse_types::read_signature;
-use spec_grammar::Kind;
+use parse_decls::read_signature;
+use spec_grammar::{Cursor, Kind, Read};
 use std::alloc::Global;
-use token_scan::{Cursor, Read};
 
 /// The signature, if there is one.
 pub fn signature(alloc: Global, cursor: Cursor<'_>) -> Read<'_, Option<Signature>>

@@ -4,8 +4,8 @@ ghost use Rattle.spec_grammar.specs.Parts.{named};
 ghost use Rattle.spec_grammar.specs.Reading.{reads, reads_as};
 ghost use Rattle.spec_grammar.specs.Symbols.{Whole};
 ghost use Rattle.spec_grammar.specs.Whole.{sections_after_control, sections_after_sorts};
-ghost use Rattle.token_scan.specs.Gives.{Gives};
-ghost use Rattle.flow_parse.specs.Parts.{body_of, module_name, spec_of, tail_of};
+ghost use Rattle.spec_grammar.specs.Gives.{Gives};
+ghost use Rattle.flow_parse.specs.inner.Parts.{body_of, module_name, spec_of, tail_of};
 
 use crate::sections::{
     control, functions, lattices, messages, properties, rules, signature, sorts,
@@ -15,10 +15,9 @@ use flow_syntax::{
     TableDecl,
 };
 use flow_term::List;
-use parse_types::read_name;
-use spec_grammar::Kind;
+use parse_decls::read_name;
+use spec_grammar::{Cursor, Kind, Read};
 use std::alloc::Global;
-use token_scan::{Cursor, Read};
 
 /// Properties, their rules and messages.
 type Tail = (List<PropDecl>, (List<PropRule>, List<Message>));

@@ -1,8 +1,8 @@
 -- The faults of a specification, gathered in turn, and what the earliest of them is.
 use Rattle.std.proofs.Common.{◌≡◌, ℕ, Some, None, refl, sym, subst, ◌∙◌, inl, inr, arith}
 use Rattle.std.specs.Prelude.{IsSomeAnd}
-use Rattle.earliest_fault.proofs.GathersLaws.{Found, Gathers-then, Gathers-same}
-use Rattle.earliest_fault.specs.Earliest.{Gathers, Either, IsNoLater, kind_rank}
+use Rattle.check_base.proofs.GathersLaws.{Found, Gathers-then, Gathers-same}
+use Rattle.check_base.specs.Earliest.{Gathers, Either, IsNoLater, kind_rank}
 use Rattle.flow_sorts.specs.First.{IsFirstFault}
 use Rattle.flow_syntax.specs.DeclFaults.{IsFaultyDeclaration}
 use Rattle.flow_syntax.specs.ExprFaults.{IsFaultyExpression}

@@ -1,6 +1,6 @@
 -- Which fault is answered, and what an answer says.
 use Rattle.std.specs.Prelude.{◌≡◌, ℕ, Result, Ok, Err}
-use Rattle.earliest_fault.specs.Earliest.{IsNoLater}
+use Rattle.check_base.specs.Earliest.{IsNoLater}
 use Rattle.flow_sorts.specs.declared.refusal.SpecRefusal.{SpecRefusal}
 use Rattle.flow_sorts.specs.declared.refusal.SpecRefusal.TheVariants.{Fault, NoMemory}
 use Rattle.flow_syntax.specs.Faults.{HasFault}

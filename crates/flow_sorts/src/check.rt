@@ -1,23 +1,22 @@
 ghost use Rattle.std.specs.Prelude.{◌≡◌, ℕ, IfOk, OnOk, map};
-ghost use Rattle.earliest_fault.specs.Earliest.{Gathers};
+ghost use Rattle.check_base.specs.Earliest.{Gathers};
 ghost use Rattle.flow_sorts.specs.First.{IfFault, IsFirstFault, IsRefusedAs, IsTypedAs};
-ghost use Rattle.expr_types.specs.Listing.{AreListed};
+ghost use Rattle.expr_typing.specs.Listing.{AreListed};
 ghost use Rattle.flow_syntax.specs.DeclFaults.{directions_of};
 ghost use Rattle.flow_syntax.specs.ExprTypes.{wholes_of};
 ghost use Rattle.flow_syntax.specs.Types.{typing_of};
 ghost use Rattle.flow_syntax.specs.Accepted.{HasIdentifiers, IsWellFormed};
 ghost use Rattle.flow_syntax.specs.Faults.{HasFault, HasNoFault};
 ghost use Rattle.flow_syntax.specs.declared.fault.SpecFaultKind.{SpecFaultKind as Kind};
-ghost use Rattle.spec_names.specs.Tables.{AreNames};
+ghost use Rattle.check_base.specs.Tables.{AreNames};
 
 use crate::refusal::SpecRefusal;
-use decl_sorts::{check_declarations, directions};
-use earliest_fault::Earliest;
-use expr_sorts::check_expressions;
+use check_base::{Earliest, Names, names_of};
+use check_decls::{check_declarations, directions};
+use check_exprs::check_expressions;
+use check_rules::{check_rules, check_variables};
 use flow_syntax::{Direction, ExprType, Spec, TypedSpec};
 use flow_term::List;
-use rule_sorts::{check_rules, check_variables};
-use spec_names::{Names, names_of};
 use std::alloc::{AllocError, Global};
 
 /// The directions of the properties, and the types with which the expressions are listed.

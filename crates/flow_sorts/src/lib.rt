@@ -5,7 +5,7 @@ mod check;
 mod refusal;
 
 pub use check::check_sorts;
+pub use check_trees::{Constructors, TreeRefusal, check_subtree, check_tree};
 pub use flow_syntax::SpecFaultKind;
 pub use refusal::SpecRefusal;
 pub use simple_rules::{NotYet, only_simple};
-pub use tree_sorts::{Constructors, TreeRefusal, check_subtree, check_tree};

@@ -20,7 +20,7 @@ use Rattle.flow_syntax.specs.declared.tables.FunctionDecl.{FunctionDecl}
 use Rattle.flow_syntax.specs.declared.tables.TableDecl.{TableDecl}
 use Rattle.flow_syntax.specs.declared.types.ElemSort.{ElemSort, ElemSort-F, fold-ElemSort}
 use Rattle.flow_syntax.specs.declared.types.LatticeType.{LatticeType, LatticeType-F, fold-LatticeType}
-use Rattle.flow_syntax.specs.Telling.{property_named, is_among}
+use Rattle.flow_syntax.specs.Inferred.{property_named, is_among}
 use Rattle.flow_syntax.specs.Types.{Sort, int_sort, pair_sort, Lattice, may, must, flat, map_to, pair_of, table, lattice_of}
 
 -- DECLARED TWICE

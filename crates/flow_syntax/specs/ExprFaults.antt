@@ -15,9 +15,9 @@ use Rattle.flow_syntax.specs.declared.tables.FunctionDecl.{FunctionDecl}
 use Rattle.flow_syntax.specs.Expressions.{ExprLayer, expr_layer}
 use Rattle.flow_syntax.specs.Types.{lattice, lattice_of}
 use Rattle.flow_syntax.specs.Scopes.{Scope, can_read, variable_named}
-use Rattle.flow_syntax.specs.Telling.{Telling, property_named, function_named, constant_named, form_telling, told_parts}
-use Rattle.flow_syntax.specs.Wants.{Want, known, free, IsMisfit}
-use Rattle.flow_syntax.specs.ExprPlaces.{Place, place, truth_want, parts_of, form_shape}
+use Rattle.flow_syntax.specs.Inferred.{Inferred, property_named, function_named, constant_named, form_inferred, inferred_parts}
+use Rattle.flow_syntax.specs.Expected.{Expected, known, unconstrained, IsMismatch}
+use Rattle.flow_syntax.specs.Occurrences.{Occurrence, occurrence, expected_truth, parts_of, form_shape}
 use Rattle.flow_syntax.specs.Binders.{variable_of, bound_in}
 
 -- A call has another number of arguments than its function.
@@ -38,19 +38,19 @@ IsMisnamed spec scope (ExprKind-F.Ident x) kinds.Unbound = (variable_named scope
 IsMisnamed spec scope (ExprKind-F.Read p side) kinds.Unbound = can_read scope side ≡ false
 IsMisnamed spec scope layer kind = ⊥
 
--- what an expression's form tells of its type
-abbrev pub own_telling : Spec → Place → Telling
-own_telling spec p = form_telling spec p.scope (told_parts spec p.scope (expr_layer p.expr))
+-- what an expression's form gives of its type
+abbrev pub own_inferred : Spec → Occurrence → Inferred
+own_inferred spec p = form_inferred spec p.scope (inferred_parts spec p.scope (expr_layer p.expr))
 
--- An expression has a fault of its own: its type isn't as wanted, or a name or word in it is wrong.
-pub data IsOwnFault (spec : Spec) (p : Place) : SpecFaultKind → Type 0 where
-  misfit : IsMisfit p.want (form_shape (expr_layer p.expr)) (own_telling spec p) → IsOwnFault spec p kinds.Sort
+-- An expression has a fault of its own: its type isn't as expected, or a name or word in it is wrong.
+pub data IsOwnFault (spec : Spec) (p : Occurrence) : SpecFaultKind → Type 0 where
+  mismatch : IsMismatch p.expected (form_shape (expr_layer p.expr)) (own_inferred spec p) → IsOwnFault spec p kinds.Sort
   misnamed : (kind : SpecFaultKind) → IsMisnamed spec p.scope (expr_layer p.expr) kind → IsOwnFault spec p kind
 
 -- An expression has a fault at a place: of its own, or one of its parts has it.
-pub data FaultsWithin (spec : Spec) (at : ℕ) (kind : SpecFaultKind) : Place → Type 0 where
-  own : (p : Place) → at ≡ (out-Expr p.expr).place → IsOwnFault spec p kind → FaultsWithin spec at kind p
-  inner : (p q : Place) → Contains (parts_of spec p) q → FaultsWithin spec at kind q → FaultsWithin spec at kind p
+pub data FaultsWithin (spec : Spec) (at : ℕ) (kind : SpecFaultKind) : Occurrence → Type 0 where
+  own : (p : Occurrence) → at ≡ (out-Expr p.expr).place → IsOwnFault spec p kind → FaultsWithin spec at kind p
+  inner : (p q : Occurrence) → Contains (parts_of spec p) q → FaultsWithin spec at kind q → FaultsWithin spec at kind p
 
 -- RULES AND MESSAGES
 
@@ -72,18 +72,18 @@ trigger_scope (trigger.AtEnd p) = record { variables = map variable_of (bound_in
 abbrev pub message_scope : Message → Scope
 message_scope m = record { variables = map variable_of (bound_in m.pattern); prev = true; next = true }
 
--- what is wanted of the body of a property's rule: the property's type
-abbrev pub body_want : Option PropDecl → Want
-body_want (Some p) = known (lattice (lattice_of p.lattice))
-body_want None = free
+-- what is expected of the body of a property's rule: the property's type
+abbrev pub expected_body : Option PropDecl → Expected
+expected_body (Some p) = known (lattice (lattice_of p.lattice))
+expected_body None = unconstrained
 
 -- the body of a rule
-abbrev pub body_of : Spec → PropRule → Place
-body_of spec rule = place (trigger_scope rule.trigger) (body_want (property_named spec rule.property.text)) rule.body
+abbrev pub body_of : Spec → PropRule → Occurrence
+body_of spec rule = occurrence (trigger_scope rule.trigger) (expected_body (property_named spec rule.property.text)) rule.body
 
 -- A specification has a fault of an expression at a place:
 pub data IsFaultyExpression (spec : Spec) (at : ℕ) : SpecFaultKind → Type 0 where
   -- in the body of a rule
   body : (rule : PropRule) (kind : SpecFaultKind) → Contains spec.rules rule → FaultsWithin spec at kind (body_of spec rule) → IsFaultyExpression spec at kind
   -- in the condition of a message
-  condition : (m : Message) (e : Expr) (kind : SpecFaultKind) → Contains spec.messages m → m.condition ≡ Some e → FaultsWithin spec at kind (place (message_scope m) truth_want e) → IsFaultyExpression spec at kind
+  condition : (m : Message) (e : Expr) (kind : SpecFaultKind) → Contains spec.messages m → m.condition ≡ Some e → FaultsWithin spec at kind (occurrence (message_scope m) expected_truth e) → IsFaultyExpression spec at kind

@@ -1,5 +1,5 @@
 -- The facts that a specification keeps have one proof at most. That its types are those of its expressions may have several, since an expression can have its
--- type as the wanted one and as the told one; so it is kept as a mere truth, from which `types_are_kept` of `expr_types` has the fact itself.
+-- type as the expected one and as the inferred one; so it is kept as a mere truth, from which `types_are_kept` of `expr_typing` has the fact itself.
 use Rattle.std.proofs.Common.{List, [], ◌∷◌}
 use native.Mathlib.Nat.{ℕ_set}
 use mathlib.Core.HLevel.{¬_prop, ×_prop, Unit-prop}

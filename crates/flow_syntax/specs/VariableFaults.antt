@@ -12,7 +12,7 @@ use Rattle.flow_syntax.specs.declared.spec.Spec.{Spec}
 use Rattle.flow_syntax.specs.Binders.{Binder, binder_of, bound_in, binders_in}
 use Rattle.flow_syntax.specs.ExprFaults.{trigger_pattern, message_scope}
 use Rattle.flow_syntax.specs.Scopes.{variable_named}
-use Rattle.flow_syntax.specs.Telling.{constant_named}
+use Rattle.flow_syntax.specs.Inferred.{constant_named}
 
 -- the names that a control rule binds, in the order of the text
 abbrev pub binders_of_head : FlowRule → List Binder

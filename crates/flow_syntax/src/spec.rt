@@ -78,6 +78,6 @@ pub struct TypedSpec {
     pub ghost distinct: { HasDistinctExpressions spec } by { EachOnce-prop (expressions_of spec) },
     pub ghost identifiers: { ∥ HasIdentifiers spec ∥₁ },
     pub ghost directed: { directions ≡ directions_of spec },
-    // A mere truth: an expression can have its type in two ways. `expr_types::types_are_kept` has the fact itself from it.
+    // A mere truth: an expression can have its type in two ways. `expr_typing::types_are_kept` has the fact itself from it.
     pub ghost typed: { ∥ AreTypes spec (map typing_of types) ∥₁ },
 }

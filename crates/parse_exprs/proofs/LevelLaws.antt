@@ -2,10 +2,10 @@
 use Rattle.std.proofs.Common.{◌≡◌, ℕ, ◌+◌, ◌≤◌, Option, true, false, List, [], ◌∷◌, Ok, Err, refl, sym, ◌∙◌, add-one}
 use Rattle.flow_syntax.specs.declared.expr.Expr.{Expr}
 use Rattle.flow_syntax.specs.declared.token.Token.{Token}
-use Rattle.grammar.specs.Choice.{first_kinds, is_decided}
-use Rattle.grammar.specs.Reading.{Outcome, ◌>>=◌, starts_with}
-use Rattle.grammar.specs.Texts.{Then, Optional, Symbol}
-use Rattle.grammar.specs.declared.Cause.{Cause}
+use Rattle.grammar_theory.specs.Choice.{first_kinds, is_decided}
+use Rattle.grammar_theory.specs.Reading.{Outcome, ◌>>=◌, starts_with}
+use Rattle.grammar_theory.specs.Texts.{Then, Optional, Symbol}
+use Rattle.grammar_theory.specs.declared.Cause.{Cause}
 use Rattle.spec_grammar.proofs.Unrolled.{reads_at, one_at, one_of_at, bind_bind, bind_same, reads_chain, chain_turn, chain_end}
 use Rattle.spec_grammar.specs.Choice.{begins, continues}
 use Rattle.spec_grammar.specs.Expressions.{expr_after, conditional, make_conditional, binding, make_binding, operators_of, combined, make_negated, comparisons, make_signed, one_or_two, first_and_second, suffixed}
@@ -17,7 +17,7 @@ use Rattle.spec_grammar.specs.declared.kind.Kind.{Kind}
 use Rattle.spec_grammar.specs.declared.kind.Kind.TheVariants as kinds
 use Rattle.spec_grammar.specs.declared.level.BinaryLevel.{BinaryLevel}
 use Rattle.spec_grammar.specs.declared.level.BinaryLevel.TheVariants.{Disjunction, Conjunction, SetOperation, Sum, Product}
-use Rattle.parse_exprs.specs.Entries.{operator_and_operand}
+use Rattle.parse_exprs.specs.inner.Entries.{operator_and_operand}
 use Rattle.spec_grammar.proofs.Turns.{starts}
 
 -- ** an expression

@@ -4,9 +4,9 @@ use Rattle.std.specs.Prelude.{fold}
 use Rattle.flow_syntax.specs.declared.expr.Expr.{Expr, out-Expr}
 use Rattle.flow_syntax.specs.declared.expr.ExprKind.TheVariants as exprs
 use Rattle.flow_syntax.specs.declared.token.Token.{Token}
-use Rattle.grammar.proofs.Composition.{ok_is}
-use Rattle.grammar.specs.Reading.{Outcome, ◌>>=◌}
-use Rattle.grammar.specs.Texts.{Many, Optional, Then}
+use Rattle.grammar_theory.proofs.Composition.{ok_is}
+use Rattle.grammar_theory.specs.Reading.{Outcome, ◌>>=◌}
+use Rattle.grammar_theory.specs.Texts.{Many, Optional, Then}
 use Rattle.spec_grammar.proofs.Turns.{after_turn, more_after, starts, starts_with_two}
 use Rattle.spec_grammar.proofs.Unrolled.{reads_at, reads_take, one_at, one_of_at, one_take, bind_bind, bind_ok, bind_on, many_end, reads_fold, fold_turn}
 use Rattle.spec_grammar.specs.Expressions.{expr_after, expr_at, first_and_second, one_or_two}
@@ -19,7 +19,7 @@ use Rattle.spec_grammar.specs.Symbols.{AnExpr, ALevel, APrimary, ANamedExpr, APa
 use Rattle.spec_grammar.specs.Choice.{beginnings}
 use Rattle.spec_grammar.specs.declared.kind.Kind.TheVariants as kinds
 use Rattle.spec_grammar.specs.declared.level.BinaryLevel.TheVariants.{Disjunction}
-use Rattle.parse_exprs.specs.Entries.{chosen, further_entry, keys_and_values, with_entry, with_further_entry}
+use Rattle.parse_exprs.specs.inner.Entries.{chosen, further_entry, keys_and_values, with_entry, with_further_entry}
 
 -- ** a primary
 

@@ -8,9 +8,8 @@ ghost use Rattle.spec_grammar.specs.Primaries.{applied_to, literal_of, side_of};
 
 use flow_syntax::{ArithOp, CompareOp, Expr, ExprKind, SetOp, Side, Token};
 use flow_term::{Boxed, List};
-use spec_grammar::Kind;
+use spec_grammar::{Kind, number_of, text_of};
 use std::alloc::{AllocError, Global};
-use token_scan::{number_of, text_of};
 
 /// What an operator of a kind makes of its operands.
 fn operation(kind: Kind, a: Boxed<Expr>, b: Boxed<Expr>) -> ExprKind

@@ -1,13 +1,13 @@
 //! Expressions by their levels: a function for each symbol of the grammar, and for each of its longer parts.
 ghost use Rattle.std.specs.Prelude.{◌<◌, ◌≤◌, IfOk};
-ghost use Rattle.parse_exprs.specs.Entries.{operator_and_operand};
+ghost use Rattle.parse_exprs.specs.inner.Entries.{operator_and_operand};
 ghost use Rattle.spec_grammar.specs.Expressions.{combined, suffixed, conditional, make_conditional, binding, make_binding, expr_after, one_or_two, first_and_second};
-ghost use Rattle.grammar.specs.Texts.{Optional, Symbol, Then};
+ghost use Rattle.grammar_theory.specs.Texts.{Optional, Symbol, Then};
 ghost use Rattle.spec_grammar.specs.Parts.{behind_in, the};
 ghost use Rattle.spec_grammar.specs.Reading.{reads, reads_part, reads_as};
 ghost use Rattle.spec_grammar.specs.Symbols.{AnExpr, ALevel, AnOperand, ANegation, AComparison, AnOpposite, ALookup, ASuffix};
 ghost use Rattle.spec_grammar.specs.declared.kind.Kind.TheVariants as kinds;
-ghost use Rattle.token_scan.specs.Gives.{Gives};
+ghost use Rattle.spec_grammar.specs.Gives.{Gives};
 
 use crate::builders::{binding_of, combined, conditional_of, negated_of, signed_of, suffixed};
 use crate::kinds::{
@@ -17,9 +17,8 @@ use crate::kinds::{
 use crate::primaries::primary;
 use flow_syntax::{Expr, Token};
 use flow_term::Boxed;
-use spec_grammar::{BinaryLevel, Kind};
+use spec_grammar::{BinaryLevel, Cursor, Kind, LIMIT, Read};
 use std::alloc::Global;
-use token_scan::{Cursor, LIMIT, Read};
 
 /// An expression.
 #[cycle(exprs)]

@@ -1,8 +1,8 @@
 //! The primaries of expressions: literals, names, reads, calls, and what stands in brackets.
 ghost use Rattle.std.specs.Prelude.{◌≤◌};
 ghost use Rattle.flow_syntax.specs.declared.expr.ExprKind.TheVariants.{Both};
-ghost use Rattle.grammar.specs.Texts.{Then};
-ghost use Rattle.parse_exprs.specs.Entries.{chosen, further_entry, keys_and_values, with_entry, with_further_entry};
+ghost use Rattle.grammar_theory.specs.Texts.{Then};
+ghost use Rattle.parse_exprs.specs.inner.Entries.{chosen, further_entry, keys_and_values, with_entry, with_further_entry};
 ghost use Rattle.spec_grammar.proofs.Unrolled.{reads_fold, reads_more};
 ghost use Rattle.spec_grammar.specs.Expressions.{expr_after, expr_at, first_and_second, one_or_two};
 ghost use Rattle.spec_grammar.specs.Parts.{any_of, behind_in, between, second, several, the};
@@ -11,16 +11,15 @@ ghost use Rattle.spec_grammar.specs.Reading.{reads, reads_as};
 ghost use Rattle.spec_grammar.specs.Rules.{condition};
 ghost use Rattle.spec_grammar.specs.Symbols.{APrimary};
 ghost use Rattle.spec_grammar.specs.declared.kind.Kind.TheVariants as kinds;
-ghost use Rattle.token_scan.specs.Gives.{Gives};
+ghost use Rattle.spec_grammar.specs.Gives.{Gives};
 
 use crate::builders::{applied_to, literal_of, one_element, side_of};
 use crate::exprs::{expr, expr_after, level_of, optional_after};
 use crate::kinds::{APPLIED, EXPR, LITERALS, SIDES, primary_beginnings};
 use flow_syntax::{Expr, ExprKind};
 use flow_term::{Boxed, List, Text};
-use spec_grammar::{BinaryLevel, Kind};
+use spec_grammar::{BinaryLevel, Cursor, Kind, LIMIT, Read, text_of};
 use std::alloc::Global;
-use token_scan::{Cursor, LIMIT, Read, text_of};
 
 /// A value without a sign or suffixes.
 #[cycle(exprs)]

@@ -10,7 +10,7 @@ use Rattle.flow_syntax.specs.declared.expr.SetOp.TheVariants as operations
 use Rattle.flow_syntax.specs.Expressions.{ExprLayer, expr_layer, parts_in}
 use Rattle.simple_rules.specs.declared.form.Form.{Form}
 use Rattle.simple_rules.specs.declared.form.Form.TheVariants as forms
-use Rattle.simple_rules.specs.Forms.{HasForm, joined_form, without_form}
+use Rattle.simple_rules.specs.inner.Forms.{HasForm, joined_form, without_form}
 use Rattle.simple_rules.specs.Simple.{IsFixed, IsSimple, fixed, read, joined, united, without, holds_read, is_read}
 use Rattle.simple_rules.proofs.HeldReads.{held_in}
 

@@ -4,7 +4,7 @@ use Rattle.std.specs.Prelude.{◌⊎◌, ◌↔◌, Contains}
 use Rattle.std.proofs.Math.Nat.{eq-or-lt_of_le}
 use Rattle.std.proofs.lemmas.Bool.{cases_lt}
 use Rattle.std.proofs.lemmas.List.{get_or_default}
-use Rattle.simple_rules.specs.Least.{IsLeast, SomeHas, lesser_of}
+use Rattle.simple_rules.specs.inner.Least.{IsLeast, SomeHas, lesser_of}
 
 -- One of the first items has the number.
 pub record FirstHave {T : Type 0} (P : T → ℕ → Type 0) (count : ℕ) (items : List T) (n : ℕ) : Type 0 where

@@ -13,8 +13,8 @@ use Rattle.flow_syntax.specs.Matching.{pattern_layer}
 use Rattle.simple_rules.specs.declared.form.Form.{Form}
 use Rattle.simple_rules.specs.declared.form.Form.TheVariants as forms
 use Rattle.simple_rules.specs.declared.refusal.NotYet.{NotYet}
-use Rattle.simple_rules.specs.Forms.{HasForm}
-use Rattle.simple_rules.specs.Least.{IsLeast, SomeHas, lesser_of, IsAtLattice, IsAtFunction, IsAtDeepPattern, IsAtDeepArgument, IsAtOtherBody}
+use Rattle.simple_rules.specs.inner.Forms.{HasForm}
+use Rattle.simple_rules.specs.inner.Least.{IsLeast, SomeHas, lesser_of, IsAtLattice, IsAtFunction, IsAtDeepPattern, IsAtDeepArgument, IsAtOtherBody}
 use Rattle.simple_rules.specs.Simple.{IsFirstNotYet, IsNotYet, lattice, function, argument, body, IsSimple, fixed}
 use Rattle.simple_rules.proofs.LeastLemmas.{least_of_both, least_of_same}
 

@@ -1,3 +1,2 @@
-pub mod Forms
-pub mod Least
+pub mod inner
 pub mod Simple

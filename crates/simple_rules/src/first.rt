@@ -1,7 +1,7 @@
 //! What the analysis doesn't take yet: lattices with tables and their functions, heads that look into their arguments, and
 //! bodies other than simple ones.
 ghost use Rattle.std.specs.Prelude.{◌≡◌, ◌↔◌, ℕ, Ok, Err};
-ghost use Rattle.simple_rules.specs.Least.{IsAtDeepArgument, IsAtDeepPattern, IsAtFunction, IsAtLattice, IsAtOther, IsAtOtherBody, IsLeast, SomeHas, lesser_of};
+ghost use Rattle.simple_rules.specs.inner.Least.{IsAtDeepArgument, IsAtDeepPattern, IsAtFunction, IsAtLattice, IsAtOther, IsAtOtherBody, IsLeast, SomeHas, lesser_of};
 ghost use Rattle.simple_rules.specs.Simple.{IsFirstNotYet, IsNotYet};
 
 use crate::form::{Form, form_of};

@@ -1,7 +1,7 @@
 //! How an expression holds reads of properties.
 ghost use Rattle.std.specs.Prelude.{◌≡◌};
 ghost use Rattle.std.specs.List.{list_any};
-ghost use Rattle.simple_rules.specs.Forms.{HasForm, IsMerge, joined_form, without_form};
+ghost use Rattle.simple_rules.specs.inner.Forms.{HasForm, IsMerge, joined_form, without_form};
 ghost use Rattle.flow_syntax.specs.Expressions.{all_of_option, expr_layer};
 ghost use Rattle.simple_rules.specs.Simple.{holds_read};
 

@@ -5,8 +5,8 @@ use Rattle.std.proofs.lemmas.Bool.Decides.{nat_tests}
 use Rattle.flow_syntax.specs.declared.token.Token.{Token}
 use Rattle.flow_syntax.specs.declared.token.TokenKind.{TokenKind}
 use Rattle.flow_syntax.specs.declared.token.TokenKind.TheVariants as tokens
-use Rattle.grammar.specs.Choice.{Decided, is_decided, is_inside, is_headed, may_be_empty, first_kinds, next_kinds, is_subset}
-use Rattle.grammar.proofs.Composition.{both}
+use Rattle.grammar_theory.specs.Choice.{Decided, is_decided, is_inside, is_headed, may_be_empty, first_kinds, next_kinds, is_subset}
+use Rattle.grammar_theory.proofs.Composition.{both}
 use Rattle.spec_grammar.specs.Choice.{begins, continues, rank_of, rank_count}
 use Rattle.spec_grammar.specs.Kinds.{kind_of, kind_count}
 use Rattle.spec_grammar.specs.Symbols.{Nonterminal, Whole, ASignature, AConstructor, ATreeSort, AnEnum, ATable, AFunction, AControlRule, AHead, AChain, AnItem, AProperty, AType, AnElemSort, ARule, ATrigger, AMessage, APattern, AFirmPattern, AnUnnamedPattern, PatternArguments, AnExpr, ANegation, AComparison, AnOpposite, ALookup, ASuffix, APrimary, ANamedExpr, AParenthesis, ABrace, AMap, ALevel, AnOperand}

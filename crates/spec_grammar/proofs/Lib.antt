@@ -1,4 +1,5 @@
 pub mod Checks
+pub mod GivesLemmas
 pub mod Listings
 pub mod Samples
 pub mod Turns

@@ -2,9 +2,9 @@
 use Rattle.std.proofs.Common.{◌≡◌, ℕ, true, false, List, [], ◌∷◌, ◌++◌, refl, ◌∙◌}
 use Rattle.std.specs.Prelude.{map}
 use Rattle.flow_syntax.specs.declared.token.Token.{Token}
-use Rattle.grammar.specs.Choice.{is_decided, is_inside}
-use Rattle.grammar.specs.Reading.{Outcome, ◌>>=◌}
-use Rattle.grammar.specs.Texts.{Part, PartValue, Then}
+use Rattle.grammar_theory.specs.Choice.{is_decided, is_inside}
+use Rattle.grammar_theory.specs.Reading.{Outcome, ◌>>=◌}
+use Rattle.grammar_theory.specs.Texts.{Part, PartValue, Then}
 use Rattle.spec_grammar.proofs.Turns.{starts}
 use Rattle.spec_grammar.proofs.Unrolled.{one_at, bind_bind, reads_more, many_turn}
 use Rattle.spec_grammar.specs.Choice.{begins, continues}

@@ -2,10 +2,10 @@
 use Rattle.std.proofs.Common.{◌≡◌, ℕ, zero, suc, ◌<◌, ◌||◌, ◌&&◌, Bool, true, false, List, [], ◌∷◌, ◌++◌, None, refl, sym, subst, inl, inr, arith}
 use Rattle.std.specs.Prelude.{◌==◌, nat_lt}
 use Rattle.std.proofs.lemmas.Bool.Decides.{nat_tests}
-use Rattle.grammar.specs.Choice.{is_some_kind}
-use Rattle.grammar.specs.Texts.{member, Part, PartValue, PartText, Grammar, SymbolText, One, Then, Or, Optional, Many, Chain, Nested, Symbol}
-use Rattle.grammar.proofs.Composition.{both}
-use Rattle.grammar.proofs.SymbolLemmas.{text_in}
+use Rattle.grammar_theory.specs.Choice.{is_some_kind}
+use Rattle.grammar_theory.specs.Texts.{member, Part, PartValue, PartText, Grammar, SymbolText, One, Then, Or, Optional, Many, Chain, Nested, Symbol}
+use Rattle.grammar_theory.proofs.Composition.{both}
+use Rattle.grammar_theory.proofs.SymbolLemmas.{text_in}
 
 -- a part has a text, where these symbols have one
 abbrev pub has_sample : {N : Type 0} → ℕ → (N → Bool) → Part N → Bool

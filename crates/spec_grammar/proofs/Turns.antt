@@ -3,9 +3,9 @@ use Rattle.std.proofs.Common.{◌≡◌, ℕ, ◌<◌, ◌||◌, Bool, true, fal
 use Rattle.std.specs.Prelude.{◌==◌, map, nat_lt}
 use Rattle.std.proofs.lemmas.Bool.Decides.{nat_tests}
 use Rattle.flow_syntax.specs.declared.token.Token.{Token}
-use Rattle.grammar.specs.Choice.{are_apart, is_decided}
-use Rattle.grammar.specs.Reading.{Outcome, ◌>>=◌, starts_with}
-use Rattle.grammar.specs.Texts.{Symbol}
+use Rattle.grammar_theory.specs.Choice.{are_apart, is_decided}
+use Rattle.grammar_theory.specs.Reading.{Outcome, ◌>>=◌, starts_with}
+use Rattle.grammar_theory.specs.Texts.{Symbol}
 use Rattle.spec_grammar.proofs.Unrolled.{one_at, one_take, bind_bind, reads_more, reads_take, many_turn, many_end}
 use Rattle.spec_grammar.specs.Choice.{begins, continues}
 use Rattle.spec_grammar.specs.Kinds.{code_of, kind_of, kind_count}

@@ -2,11 +2,11 @@
 use Rattle.std.proofs.Common.{◌≡◌, ℕ, suc, ◌+◌, ◌<◌, ◌≤◌, true, false, List, [], ◌∷◌, ◌++◌, length, Result, Ok, Err, refl, sym, ap, ◌∙◌, add-one, append_assoc, append-nil, arith}
 use Rattle.std.specs.Prelude.{nat_le, map, fold}
 use Rattle.flow_syntax.specs.declared.token.Token.{Token}
-use Rattle.grammar.proofs.Composition.{repeat_end, ok_one}
-use Rattle.grammar.proofs.SymbolLemmas.{unroll, unroll_deep, turn_law, symbol_takes}
-use Rattle.grammar.specs.Choice.{first_kinds, is_decided, is_inside, may_be_empty}
-use Rattle.grammar.specs.Reading.{Outcome, ◌>>=◌, starts_with, read_one, too_deep}
-use Rattle.grammar.specs.Texts.{member, Part, PartValue, Many, Chain}
+use Rattle.grammar_theory.proofs.Composition.{repeat_end, ok_one}
+use Rattle.grammar_theory.proofs.SymbolLemmas.{unroll, unroll_deep, turn_law, symbol_takes}
+use Rattle.grammar_theory.specs.Choice.{first_kinds, is_decided, is_inside, may_be_empty}
+use Rattle.grammar_theory.specs.Reading.{Outcome, ◌>>=◌, starts_with, read_one, too_deep}
+use Rattle.grammar_theory.specs.Texts.{member, Part, PartValue, Many, Chain}
 use Rattle.spec_grammar.proofs.Checks.{checks}
 use Rattle.spec_grammar.specs.Choice.{begins, continues}
 use Rattle.spec_grammar.specs.Kinds.{code_of, kind_of, kind_count}

@@ -2,9 +2,9 @@
 use Rattle.std.proofs.Common.{◌≡◌, List, Ok, Err}
 use Rattle.flow_syntax.specs.declared.spec.Spec.{Spec}
 use Rattle.flow_syntax.specs.declared.token.Token.{Token}
-use Rattle.grammar.proofs.WholeLemmas.{whole_found, whole_only, whole_fault, whole_fault_only}
-use Rattle.grammar.specs.Faults.{IsText, IsFirstFault}
-use Rattle.grammar.specs.declared.Cause.{Cause}
+use Rattle.grammar_theory.proofs.WholeLemmas.{whole_found, whole_only, whole_fault, whole_fault_only}
+use Rattle.grammar_theory.specs.Faults.{IsText, IsFirstFault}
+use Rattle.grammar_theory.specs.declared.Cause.{Cause}
 use Rattle.spec_grammar.proofs.Checks.{checks}
 use Rattle.spec_grammar.specs.Choice.{begins, continues}
 use Rattle.spec_grammar.specs.Reading.{reads_all}

@@ -12,7 +12,7 @@ use Rattle.flow_syntax.specs.declared.rule.Item.{Item}
 use Rattle.flow_syntax.specs.declared.rule.ItemKind.{ItemKind}
 use Rattle.flow_syntax.specs.declared.rule.ItemKind.TheVariants as items
 use Rattle.flow_syntax.specs.declared.token.Token.{Token}
-use Rattle.grammar.specs.Texts.{Part, Then, Or, Optional, Symbol, PartValue}
+use Rattle.grammar_theory.specs.Texts.{Part, Then, Or, Optional, Symbol, PartValue}
 use Rattle.spec_grammar.specs.Kinds.{is_a}
 use Rattle.spec_grammar.specs.Parts.{the, any_of, identifier, constructor_name, several, text_of, listed}
 use Rattle.spec_grammar.specs.Patterns.{application_of}

@@ -24,7 +24,7 @@ use Rattle.flow_syntax.specs.declared.expr.ExprKind.{ExprKind}
 use Rattle.flow_syntax.specs.declared.expr.ExprKind.TheVariants as exprs
 use Rattle.flow_syntax.specs.declared.expr.SetOp.TheVariants as set_ops
 use Rattle.flow_syntax.specs.declared.token.Token.{Token}
-use Rattle.grammar.specs.Texts.{Part, Then, Or, Optional, Chain, Nested, Symbol, PartValue}
+use Rattle.grammar_theory.specs.Texts.{Part, Then, Or, Optional, Chain, Nested, Symbol, PartValue}
 use Rattle.spec_grammar.specs.Kinds.{is_kind, kind_of}
 use Rattle.spec_grammar.specs.Parts.{the, any_of, identifier, in_square, text_of, behind_in, inside}
 use Rattle.spec_grammar.specs.Symbols.{Nonterminal, ValueOf, AnExpr, ALevel, AnOperand, ANegation, AComparison, AnOpposite, ALookup, ASuffix, APrimary}

@@ -2,9 +2,9 @@
 use Rattle.std.specs.Prelude.{◌≡◌, ◌↔◌, List, Ok, Err}
 use Rattle.flow_syntax.specs.declared.spec.Spec.{Spec}
 use Rattle.flow_syntax.specs.declared.token.Token.{Token}
-use Rattle.grammar.specs.Beginnings.{BeginsByCases}
-use Rattle.grammar.specs.Faults.{Begins, IsText, IsFirstFault}
-use Rattle.grammar.specs.declared.Cause.{Cause}
+use Rattle.grammar_theory.specs.Beginnings.{BeginsByCases}
+use Rattle.grammar_theory.specs.Faults.{Begins, IsText, IsFirstFault}
+use Rattle.grammar_theory.specs.declared.Cause.{Cause}
 use Rattle.spec_grammar.specs.Reading.{reads_all}
 use Rattle.spec_grammar.specs.Symbols.{Nonterminal, Whole}
 use Rattle.spec_grammar.specs.Syntax.{spec_syntax, nesting_limit}

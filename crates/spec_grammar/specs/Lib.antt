@@ -1,6 +1,7 @@
 pub mod Choice
 pub mod Control
 pub mod Expressions
+pub mod Gives
 pub mod Kinds
 pub mod Laws
 pub mod Parts

@@ -4,7 +4,7 @@ use Rattle.flow_syntax.specs.declared.spec.Named.{Named}
 use Rattle.flow_syntax.specs.declared.token.Token.{Token}
 use Rattle.flow_syntax.specs.declared.token.TokenKind.{TokenKind}
 use Rattle.flow_syntax.specs.declared.token.TokenKind.TheVariants as tokens
-use Rattle.grammar.specs.Texts.{Part, One, Then, Many, Nested, Symbol}
+use Rattle.grammar_theory.specs.Texts.{Part, One, Then, Many, Nested, Symbol}
 use Rattle.spec_grammar.specs.Kinds.{code_of}
 use Rattle.spec_grammar.specs.Symbols.{Nonterminal}
 use Rattle.spec_grammar.specs.declared.kind.Kind.{Kind}

@@ -12,7 +12,7 @@ use Rattle.flow_syntax.specs.declared.pattern.Pattern.{Pattern, roll-Pattern}
 use Rattle.flow_syntax.specs.declared.pattern.PatternKind.{PatternKind}
 use Rattle.flow_syntax.specs.declared.pattern.PatternKind.TheVariants as patterns
 use Rattle.flow_syntax.specs.declared.token.Token.{Token}
-use Rattle.grammar.specs.Texts.{Part, Then, Or, Optional, Nested, Symbol, PartValue}
+use Rattle.grammar_theory.specs.Texts.{Part, Then, Or, Optional, Nested, Symbol, PartValue}
 use Rattle.spec_grammar.specs.Kinds.{is_a}
 use Rattle.spec_grammar.specs.Parts.{the, any_of, identifier, several, in_round, in_square, text_of, number_of, listed_in, inside}
 use Rattle.spec_grammar.specs.Symbols.{Nonterminal, ValueOf, APattern, AFirmPattern, AnUnnamedPattern, PatternArguments}

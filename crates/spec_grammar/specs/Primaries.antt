@@ -13,7 +13,7 @@ use Rattle.flow_syntax.specs.declared.expr.ExprKind.TheVariants as exprs
 use Rattle.flow_syntax.specs.declared.expr.Side.{Side}
 use Rattle.flow_syntax.specs.declared.expr.Side.TheVariants as sides
 use Rattle.flow_syntax.specs.declared.token.Token.{Token}
-use Rattle.grammar.specs.Texts.{Part, Then, Or, Optional, Symbol, PartValue}
+use Rattle.grammar_theory.specs.Texts.{Part, Then, Or, Optional, Symbol, PartValue}
 use Rattle.spec_grammar.specs.Expressions.{expr_at, expr_after, one_or_two, first_and_second}
 use Rattle.spec_grammar.specs.Kinds.{is_a, is_kind, kind_of}
 use Rattle.spec_grammar.specs.Parts.{the, any_of, identifier, several, in_round, in_square, in_braces, text_of, number_of, listed, behind_in, listed_in, inside}

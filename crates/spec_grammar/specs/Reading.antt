@@ -2,9 +2,9 @@
 use Rattle.std.specs.Prelude.{ℕ, List, Result, Ok}
 use Rattle.flow_syntax.specs.declared.spec.Spec.{Spec}
 use Rattle.flow_syntax.specs.declared.token.Token.{Token}
-use Rattle.grammar.specs.Reading.{Outcome, ◌>>=◌, read_part, read_symbol, read_whole, turn_count}
-use Rattle.grammar.specs.Texts.{Part, PartValue}
-use Rattle.grammar.specs.declared.Cause.{Cause}
+use Rattle.grammar_theory.specs.Reading.{Outcome, ◌>>=◌, read_part, read_symbol, read_whole, turn_count}
+use Rattle.grammar_theory.specs.Texts.{Part, PartValue}
+use Rattle.grammar_theory.specs.declared.Cause.{Cause}
 use Rattle.spec_grammar.specs.Choice.{begins, rank_count}
 use Rattle.spec_grammar.specs.Kinds.{kind_of}
 use Rattle.spec_grammar.specs.Symbols.{Nonterminal, ValueOf, Whole}

@@ -17,7 +17,7 @@ use Rattle.flow_syntax.specs.declared.property.PropRule.{PropRule}
 use Rattle.flow_syntax.specs.declared.property.Trigger.{Trigger}
 use Rattle.flow_syntax.specs.declared.property.Trigger.TheVariants as triggers
 use Rattle.flow_syntax.specs.declared.token.Token.{Token}
-use Rattle.grammar.specs.Texts.{Part, Then, Or, Optional, Nested, Symbol, PartValue}
+use Rattle.grammar_theory.specs.Texts.{Part, Then, Or, Optional, Nested, Symbol, PartValue}
 use Rattle.spec_grammar.specs.Expressions.{expr_after}
 use Rattle.spec_grammar.specs.Kinds.{is_a}
 use Rattle.spec_grammar.specs.Parts.{the, any_of, identifier, several, in_round, text_of, named, listed, behind_in, inside}

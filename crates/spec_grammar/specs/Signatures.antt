@@ -8,7 +8,7 @@ use Rattle.flow_syntax.specs.declared.signature.Signature.{Signature}
 use Rattle.flow_syntax.specs.declared.signature.TreeSort.{TreeSort}
 use Rattle.flow_syntax.specs.declared.signature.TreeSort.TheVariants as sorts
 use Rattle.flow_syntax.specs.declared.token.Token.{Token}
-use Rattle.grammar.specs.Texts.{Part, Then, Or, Optional, Many, Symbol, PartValue}
+use Rattle.grammar_theory.specs.Texts.{Part, Then, Or, Optional, Many, Symbol, PartValue}
 use Rattle.spec_grammar.specs.Kinds.{is_a}
 use Rattle.spec_grammar.specs.Parts.{the, any_of, identifier, constructor_name, several, in_round, named, listed, listed_in, inside}
 use Rattle.spec_grammar.specs.Symbols.{Nonterminal, ValueOf, AConstructor, ATreeSort}

@@ -1,7 +1,7 @@
 -- The grammar of specifications: each symbol's production and the value that it makes.
 use Rattle.std.specs.Prelude.{ℕ}
 use Rattle.flow_syntax.specs.declared.token.Token.{Token}
-use Rattle.grammar.specs.Texts.{Part, PartValue, Grammar}
+use Rattle.grammar_theory.specs.Texts.{Part, PartValue, Grammar}
 use Rattle.spec_grammar.specs.Control.{control_rule_rule, make_control_rule, head_rule, make_head, chain_rule, make_chain, item_rule, make_item}
 use Rattle.spec_grammar.specs.Expressions.{expr_rule, make_expr, level_rule, make_level, operand_rule, make_operand, negation_rule, make_negation, comparison_rule, make_comparison, opposite_rule, make_opposite, lookup_rule, make_lookup, suffix_rule, make_suffix}
 use Rattle.spec_grammar.specs.Kinds.{kind_of}

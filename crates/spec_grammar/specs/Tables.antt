@@ -10,7 +10,7 @@ use Rattle.flow_syntax.specs.declared.tables.EnumDecl.{EnumDecl}
 use Rattle.flow_syntax.specs.declared.tables.FunctionDecl.{FunctionDecl}
 use Rattle.flow_syntax.specs.declared.tables.TableDecl.{TableDecl}
 use Rattle.flow_syntax.specs.declared.token.Token.{Token}
-use Rattle.grammar.specs.Texts.{Part, Then, Optional, PartValue}
+use Rattle.grammar_theory.specs.Texts.{Part, Then, Optional, PartValue}
 use Rattle.spec_grammar.specs.Parts.{the, identifier, identifiers, several, in_round, in_braces, named, listed, inside, all_named}
 use Rattle.spec_grammar.specs.Symbols.{Nonterminal, ValueOf}
 use Rattle.spec_grammar.specs.declared.kind.Kind.TheVariants as kinds

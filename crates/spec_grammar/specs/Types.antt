@@ -11,7 +11,7 @@ use Rattle.flow_syntax.specs.declared.types.ElemSort.{ElemSort}
 use Rattle.flow_syntax.specs.declared.types.ElemSort.TheVariants as elems
 use Rattle.flow_syntax.specs.declared.types.LatticeType.{LatticeType}
 use Rattle.flow_syntax.specs.declared.types.LatticeType.TheVariants as types
-use Rattle.grammar.specs.Texts.{Part, Then, Or, Symbol, PartValue}
+use Rattle.grammar_theory.specs.Texts.{Part, Then, Or, Symbol, PartValue}
 use Rattle.spec_grammar.specs.Kinds.{is_a}
 use Rattle.spec_grammar.specs.Parts.{the, any_of, identifier, in_round, named, inside}
 use Rattle.spec_grammar.specs.Symbols.{Nonterminal, ValueOf, AType, AnElemSort}

@@ -3,7 +3,7 @@
 use Rattle.std.specs.Prelude.{List, [], Option, Some, None}
 use Rattle.flow_syntax.specs.declared.spec.Spec.{Spec}
 use Rattle.flow_syntax.specs.declared.token.Token.{Token}
-use Rattle.grammar.specs.Texts.{Part, Then, Optional, Many, Symbol, PartValue}
+use Rattle.grammar_theory.specs.Texts.{Part, Then, Optional, Many, Symbol, PartValue}
 use Rattle.spec_grammar.specs.Parts.{the, identifier, named}
 use Rattle.spec_grammar.specs.Symbols.{Nonterminal, ValueOf, ASignature, AnEnum, ATable, AFunction, AControlRule, AProperty, ARule, AMessage}
 use Rattle.spec_grammar.specs.declared.kind.Kind.{Kind}

@@ -14,16 +14,16 @@ use Rattle.flow_syntax.specs.declared.expr.Side.{Side}
 use Rattle.flow_syntax.specs.declared.expr.Side.TheVariants as side
 use Rattle.flow_syntax.specs.declared.spec.Spec.{Spec}
 use Rattle.flow_syntax.specs.Expressions.{ExprLayer, expr_layer, expressions_of, parts_in as exprs_in}
-use Rattle.flow_syntax.specs.ExprPlaces.{Place, parts_of}
+use Rattle.flow_syntax.specs.Occurrences.{Occurrence, parts_of}
 use Rattle.flow_syntax.specs.ExprTypes.{wholes_of}
 use Rattle.flow_syntax.specs.Scopes.{Variable as Scoped}
 use Rattle.flow_syntax.specs.Types.{Typing}
 use Rattle.flow_syntax.proofs.Listed.{in_at, in_any, Contains_here, Contains_behind}
-use Rattle.expr_types.specs.Listing.{ArePlaces, nowhere, there}
-use Rattle.expr_types.proofs.Clean.{all_append}
-use Rattle.expr_types.proofs.Laws.{IsGood, typed_inside, good_wholes}
-use Rattle.expr_types.proofs.Order.{exprs, types_in_order}
-use Rattle.expr_types.proofs.Shown.{HasSort}
+use Rattle.expr_typing.specs.Listing.{AreOccurrences, nowhere, there}
+use Rattle.expr_typing.proofs.Clean.{all_append}
+use Rattle.expr_typing.proofs.Laws.{IsGood, typed_inside, good_wholes}
+use Rattle.expr_typing.proofs.Order.{exprs, types_in_order}
+use Rattle.expr_typing.proofs.Shown.{HasSort}
 use Rattle.expr_meaning.specs.Ranges.{Range, values}
 use Rattle.value_domains.specs.Domains.{Domain}
 use Rattle.expr_meaning.specs.SpecRanges.{can_read_in, ranges_of}
@@ -34,15 +34,15 @@ use Rattle.expr_meaning.specs.Typing.{Variable, Held, held, held_parts, HasForm,
 use Rattle.expr_meaning.proofs.Laws.{meanings_in_range, modes_right, no_others_made}
 use Rattle.flow_syntax.proofs.Parts.{given_layer, by_parts_out}
 use Rattle.typed_bodies.specs.Accepted.{IsTypedBy}
-use Rattle.typed_bodies.specs.Anywhere.{IsPlaceIn, whole, part, reads_in, reads_at, names_in, names_at, sort_or_int, variables_at, used_by, ExpressionsAreGood, ExpressionsMakeNoOthers, ExpressionsStand}
+use Rattle.typed_bodies.specs.Anywhere.{IsOccurrenceIn, whole, part, reads_in, reads_at, names_in, names_at, sort_or_int, variables_at, used_by, ExpressionsAreGood, ExpressionsMakeNoOthers, ExpressionsStand}
 use Rattle.typed_bodies.proofs.Bodies.{at_get, in_map, can_read_there, HoldsWithin, within, whole_ranged}
 use Rattle.typed_bodies.proofs.Forms.{usable}
 use Rattle.expr_meaning.proofs.TypedParts.{split_all, all_from}
 use Rattle.typed_bodies.proofs.Good.{agree, tables}
-use Rattle.expr_types.proofs.Kept.{list_all, each_listed}
+use Rattle.expr_typing.proofs.Kept.{list_all, each_listed}
 use Rattle.typed_bodies.proofs.Listed.{expressions_parts, place_listed}
 use Rattle.typed_bodies.proofs.Names.{in_scope, element_listed}
-use Rattle.typed_bodies.proofs.Places.{HasRange, all_typed}
+use Rattle.typed_bodies.proofs.Occurrences.{HasRange, all_typed}
 
 -- WHAT AN EXPRESSION READS
 
@@ -143,19 +143,19 @@ variables_right (v ∷ vs) h = λ i. record { name = v.name; sort = known i } �
     known = h.0.1 ∙ sym (ap (λ o. Some (sort_or_int o)) h.0.1)
 
 module _ (spec : Spec) where
-  all_placed : (ps places : List Place) → ArePlaces spec ps places → AllByRecursion (IsPlaceIn spec) ps → AllByRecursion (IsPlaceIn spec) places
+  all_placed : (ps occurrences : List Occurrence) → AreOccurrences spec ps occurrences → AllByRecursion (IsOccurrenceIn spec) ps → AllByRecursion (IsOccurrenceIn spec) occurrences
   all_placed _ _ nowhere h = tt
   all_placed _ _ (there p ps inner others d e) h =
-      (h.0, all_append (IsPlaceIn spec) inner others (all_placed (parts_of spec p) inner d (all_from (IsPlaceIn spec) (parts_of spec p) (λ q among. part p q h.0 among))) (all_placed ps others e h.1))
+      (h.0, all_append (IsOccurrenceIn spec) inner others (all_placed (parts_of spec p) inner d (all_from (IsOccurrenceIn spec) (parts_of spec p) (λ q among. part p q h.0 among))) (all_placed ps others e h.1))
 
-  inner_within : (P : Place → Type 0) (p : Place) (places : List Place) → ArePlaces spec (p ∷ []) places → AllByRecursion P places → AllByRecursion (HoldsWithin spec P) (parts_of spec p)
+  inner_within : (P : Occurrence → Type 0) (p : Occurrence) (occurrences : List Occurrence) → AreOccurrences spec (p ∷ []) occurrences → AllByRecursion P occurrences → AllByRecursion (HoldsWithin spec P) (parts_of spec p)
   inner_within P _ _ (there p ps inner others d e) h = within spec P (parts_of spec p) inner d (split_all P inner others h.1).0
 
   module _ (types : List Typing) (typed : IsTypedBy spec types) where
     abbrev range : Expr → Range
     range = ranges_of spec types
 
-    good_at : (has : ℕ → Side → Bool) (q : Place) → IsPlaceIn spec q → IsGood spec q × HoldsWithin spec (HasRange spec range has) q
+    good_at : (has : ℕ → Side → Bool) (q : Occurrence) → IsOccurrenceIn spec q → IsGood spec q × HoldsWithin spec (HasRange spec range has) q
     good_at has _ (whole q among) =
         let k = in_at (wholes_of spec) q among in
         (at_get (IsGood spec) (wholes_of spec) k.0 q k.1 (good_wholes spec typed.faultless), whole_ranged spec types range typed.faultless typed.are (agree spec types typed) has q among)
@@ -164,14 +164,14 @@ module _ (spec : Spec) where
         let k = in_at (parts_of spec p) q among in
         let listed = list_all spec (parts_of spec p) (each_listed spec (exprs (parts_of spec p))) in (
           at_get (IsGood spec) (parts_of spec p) k.0 q k.1 (typed_inside spec p listed.0 outer.0 listed.1),
-          at_get (HoldsWithin spec (HasRange spec range has)) (parts_of spec p) k.0 q k.1 (inner_within (HasRange spec range has) p outer.1.places outer.1.are outer.1.hold),
+          at_get (HoldsWithin spec (HasRange spec range has)) (parts_of spec p) k.0 q k.1 (inner_within (HasRange spec range has) p outer.1.occurrences outer.1.are outer.1.hold),
         )
 
-    typed_here : (q : Place) → IsPlaceIn spec q → AreTyped spec (used_by spec q.expr) range (held (variables_at q.scope) q.expr ∷ [])
+    typed_here : (q : Occurrence) → IsOccurrenceIn spec q → AreTyped spec (used_by spec q.expr) range (held (variables_at q.scope) q.expr ∷ [])
     typed_here q place =
         let good = good_at (can_read_in spec q.scope) q place in
         served spec range (usable spec range (can_read_in spec q.scope)) (used_by spec q.expr) refl (held (variables_at q.scope) q.expr ∷ [])
-        (all_typed spec range (can_read_in spec q.scope) (element_listed spec typed.faultless) (q ∷ []) good.1.places good.1.are good.1.hold (good.0, tt) (held (variables_at q.scope) q.expr ∷ [])
+        (all_typed spec range (can_read_in spec q.scope) (element_listed spec typed.faultless) (q ∷ []) good.1.occurrences good.1.are good.1.hold (good.0, tt) (held (variables_at q.scope) q.expr ∷ [])
         (record { expr = refl; scope = record { variables = variables_right q.scope.variables good.0.1.0; sides = can_read_there spec q.scope } }, tt))
         (record { reads = λ n a h. h; names = λ x h. h }, tt)
 
@@ -189,15 +189,15 @@ makes_no_others spec types typed lawful among made q place at can known =
 pub expressions_stand : ExpressionsStand
 expressions_stand spec types typed e among =
     let order = (types_in_order spec types).0 typed.are in
-    let placed = all_placed spec (wholes_of spec) order.places order.all (all_from (IsPlaceIn spec) (wholes_of spec) (λ q in_wholes. whole q in_wholes)) in
-    let k = in_at (exprs order.places) e (subst (λ (es : List Expr). Contains es e) (sym order.stand) among) in
-    let q = of_map order.places k.0 e k.1 in
-    (q.0, at_get (IsPlaceIn spec) order.places k.0 q.0 q.1 placed, q.2)
+    let placed = all_placed spec (wholes_of spec) order.occurrences order.all (all_from (IsOccurrenceIn spec) (wholes_of spec) (λ q in_wholes. whole q in_wholes)) in
+    let k = in_at (exprs order.occurrences) e (subst (λ (es : List Expr). Contains es e) (sym order.stand) among) in
+    let q = of_map order.occurrences k.0 e k.1 in
+    (q.0, at_get (IsOccurrenceIn spec) order.occurrences k.0 q.0 q.1 placed, q.2)
   where
-    of_map : (qs : List Place) (k : ℕ) (e : Expr) → slice_get (exprs qs) k ≡ Some e → (q : Place) × (slice_get qs k ≡ Some q) × (q.expr ≡ e)
-    of_map qs k e h = by (slice_get qs k) refl (sym (slice_get-map (λ (q : Place). q.expr) qs k) ∙ h)
+    of_map : (qs : List Occurrence) (k : ℕ) (e : Expr) → slice_get (exprs qs) k ≡ Some e → (q : Occurrence) × (slice_get qs k ≡ Some q) × (q.expr ≡ e)
+    of_map qs k e h = by (slice_get qs k) refl (sym (slice_get-map (λ (q : Occurrence). q.expr) qs k) ∙ h)
       where
-        by : (o : Option Place) → slice_get qs k ≡ o → option_map (λ (q : Place). q.expr) o ≡ Some e → (q : Place) × (slice_get qs k ≡ Some q) × (q.expr ≡ e)
+        by : (o : Option Occurrence) → slice_get qs k ≡ o → option_map (λ (q : Occurrence). q.expr) o ≡ Some e → (q : Occurrence) × (slice_get qs k ≡ Some q) × (q.expr ≡ e)
         by (Some q) at is = (q, at, cc)
         by None at is = absurd (no is)
           where

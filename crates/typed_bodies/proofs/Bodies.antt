@@ -16,19 +16,19 @@ use Rattle.flow_syntax.specs.declared.property.Trigger.{Trigger}
 use Rattle.flow_syntax.specs.declared.property.Trigger.TheVariants as trigger
 use Rattle.flow_syntax.specs.declared.spec.Spec.{Spec}
 use Rattle.flow_syntax.specs.Binders.{Bound, bound_in, variable_of}
-use Rattle.flow_syntax.specs.ExprFaults.{body_of, body_want, trigger_pattern, trigger_scope, message_scope}
-use Rattle.flow_syntax.specs.ExprPlaces.{Place, place, optional, truth_want}
+use Rattle.flow_syntax.specs.ExprFaults.{body_of, expected_body, trigger_pattern, trigger_scope, message_scope}
+use Rattle.flow_syntax.specs.Occurrences.{Occurrence, occurrence, optional, expected_truth}
 use Rattle.flow_syntax.specs.ExprTypes.{HasType, AreTypes, wholes_of}
 use Rattle.flow_syntax.specs.Faults.{HasNoFault}
 use Rattle.flow_syntax.specs.Scopes.{Scope, can_read}
-use Rattle.flow_syntax.specs.Telling.{property_named}
-use Rattle.flow_syntax.specs.Wants.{known}
+use Rattle.flow_syntax.specs.Inferred.{property_named}
+use Rattle.flow_syntax.specs.Expected.{known}
 use Rattle.flow_syntax.specs.Types.{Typing, truth}
 use Rattle.flow_syntax.proofs.Listed.{at_in, in_at, Contains_here}
-use Rattle.expr_types.specs.Listing.{ArePlaces, nowhere, there}
-use Rattle.expr_types.proofs.Clean.{all_append}
-use Rattle.expr_types.proofs.Laws.{IsGood, good_body, good_condition}
-use Rattle.expr_types.proofs.Order.{types_in_order}
+use Rattle.expr_typing.specs.Listing.{AreOccurrences, nowhere, there}
+use Rattle.expr_typing.proofs.Clean.{all_append}
+use Rattle.expr_typing.proofs.Laws.{IsGood, good_body, good_condition}
+use Rattle.expr_typing.proofs.Order.{types_in_order}
 use Rattle.expr_meaning.specs.Ranges.{Range, truths, range_of}
 use Rattle.expr_meaning.specs.SpecRanges.{Agrees, can_read_in, usable_in, variables_of}
 use Rattle.typed_bodies.specs.Bodies.{BodiesAreTyped, ConditionsAreTyped}
@@ -37,7 +37,7 @@ use Rattle.expr_meaning.specs.Typing.{Held, held, AreTyped}
 use Rattle.typed_bodies.proofs.Forms.{StandsIn, usable}
 use Rattle.expr_meaning.proofs.TypedParts.{split_all}
 use Rattle.typed_bodies.proofs.Names.{in_scope, element_listed, property_at}
-use Rattle.typed_bodies.proofs.Places.{Stands, HasRange, ranged_of, heads, all_typed}
+use Rattle.typed_bodies.proofs.Occurrences.{Stands, HasRange, ranged_of, heads, all_typed}
 
 pub at_get : {X : Type 0} (P : X → Type 0) (xs : List X) (k : ℕ) (x : X) → slice_get xs k ≡ Some x → AllByRecursion P xs → P x
 at_get P [] k x e h = absurd (no e)
@@ -69,44 +69,44 @@ module _ (spec : Spec) where
       and_from (nat_lt (property_number spec x) (length spec.properties)) (can_read s side) ((Decides-ltb (property_number spec x) (length spec.properties)).1 (slice_get_within spec.properties (property_number spec x) d (property_at spec.properties x d e))) h
 
   -- the places of one whole expression and all its parts, at which something holds
-  pub record HoldsWithin (P : Place → Type 0) (q : Place) : Type 0 where
-    pub places : List Place
-    pub are : ArePlaces spec (q ∷ []) places
-    pub hold : AllByRecursion P places
+  pub record HoldsWithin (P : Occurrence → Type 0) (q : Occurrence) : Type 0 where
+    pub occurrences : List Occurrence
+    pub are : AreOccurrences spec (q ∷ []) occurrences
+    pub hold : AllByRecursion P occurrences
 
-  pub within : (P : Place → Type 0) (ps places : List Place) → ArePlaces spec ps places → AllByRecursion P places → AllByRecursion (HoldsWithin P) ps
+  pub within : (P : Occurrence → Type 0) (ps occurrences : List Occurrence) → AreOccurrences spec ps occurrences → AllByRecursion P occurrences → AllByRecursion (HoldsWithin P) ps
   within P _ _ nowhere h = tt
   within P _ _ (there p ps inner others d e) h =
       let rest = split_all P inner others h.1 in
-      (record { places = p ∷ inner ++ []; are = there p [] inner [] d nowhere; hold = (h.0, all_append P inner [] rest.0 tt) }, within P ps others e rest.1)
+      (record { occurrences = p ∷ inner ++ []; are = there p [] inner [] d nowhere; hold = (h.0, all_append P inner [] rest.0 tt) }, within P ps others e rest.1)
 
   module _ (range : Expr → Range) (has : ℕ → Side → Bool) where
-    ranged_places : (qs : List Place) (ts : List Typing) → AllZip (HasType spec) qs ts → AllZip (λ e t. range e ≡ range_of spec.lattices t) (map (λ q. q.expr) qs) ts → AllByRecursion (HasRange spec range has) qs
-    ranged_places [] [] have agree = tt
-    ranged_places [] (t ∷ ts) have agree = absurd have
-    ranged_places (q ∷ qs) [] have agree = absurd have
-    ranged_places (q ∷ qs) (t ∷ ts) have agree = ((t, have.0, agree.0), ranged_places qs ts have.1 agree.1)
+    ranged_occurrences : (qs : List Occurrence) (ts : List Typing) → AllZip (HasType spec) qs ts → AllZip (λ e t. range e ≡ range_of spec.lattices t) (map (λ q. q.expr) qs) ts → AllByRecursion (HasRange spec range has) qs
+    ranged_occurrences [] [] have agree = tt
+    ranged_occurrences [] (t ∷ ts) have agree = absurd have
+    ranged_occurrences (q ∷ qs) [] have agree = absurd have
+    ranged_occurrences (q ∷ qs) (t ∷ ts) have agree = ((t, have.0, agree.0), ranged_occurrences qs ts have.1 agree.1)
 
   module _ (types : List Typing) (range : Expr → Range) (faultless : HasNoFault spec) (are : AreTypes spec types) (agree : Agrees spec types range) where
-    pub whole_ranged : (has : ℕ → Side → Bool) (q : Place) → Contains (wholes_of spec) q → HoldsWithin (HasRange spec range has) q
+    pub whole_ranged : (has : ℕ → Side → Bool) (q : Occurrence) → Contains (wholes_of spec) q → HoldsWithin (HasRange spec range has) q
     whole_ranged has q among =
         let order = (types_in_order spec types).0 are in
-        let ranged = ranged_places range has order.places types order.have (subst (λ (es : List Expr). AllZip (λ e t. range e ≡ range_of spec.lattices t) es types) (sym order.stand) agree) in
+        let ranged = ranged_occurrences range has order.occurrences types order.have (subst (λ (es : List Expr). AllZip (λ e t. range e ≡ range_of spec.lattices t) es types) (sym order.stand) agree) in
         let k = in_at (wholes_of spec) q among in
-        at_get (HoldsWithin (HasRange spec range has)) (wholes_of spec) k.0 q k.1 (within (HasRange spec range has) (wholes_of spec) order.places order.all ranged)
+        at_get (HoldsWithin (HasRange spec range has)) (wholes_of spec) k.0 q k.1 (within (HasRange spec range has) (wholes_of spec) order.occurrences order.all ranged)
 
-    -- a whole expression has the range of the type that is wanted of it
-    whole_range : (q : Place) → Contains (wholes_of spec) q → IsGood spec q → (t : Typing) → q.want ≡ known t → range q.expr ≡ range_of spec.lattices t
+    -- a whole expression has the range of the type that is expected of it
+    whole_range : (q : Occurrence) → Contains (wholes_of spec) q → IsGood spec q → (t : Typing) → q.expected ≡ known t → range q.expr ≡ range_of spec.lattices t
     whole_range q among good t e =
         let has = can_read_in spec q.scope in
         let here = whole_ranged has q among in
-        (ranged_of spec range has q good.0 (heads spec range has (HasRange spec range has) (q ∷ []) here.places here.are here.hold).0).from_want t e
+        (ranged_of spec range has q good.0 (heads spec range has (HasRange spec range has) (q ∷ []) here.occurrences here.are here.hold).0).from_expected t e
 
     -- a whole expression is typed where it stands
-    whole_typed : (has : ℕ → Side → Bool) (q : Place) → Contains (wholes_of spec) q → IsGood spec q → (h : Held) → Stands spec range has q h → AreTyped spec (usable spec range has) range (h ∷ [])
+    whole_typed : (has : ℕ → Side → Bool) (q : Occurrence) → Contains (wholes_of spec) q → IsGood spec q → (h : Held) → Stands spec range has q h → AreTyped spec (usable spec range has) range (h ∷ [])
     whole_typed has q among good h stands =
         let here = whole_ranged has q among in
-        all_typed spec range has (element_listed spec faultless) (q ∷ []) here.places here.are here.hold (good, tt) (h ∷ []) (stands, tt)
+        all_typed spec range has (element_listed spec faultless) (q ∷ []) here.occurrences here.are here.hold (good, tt) (h ∷ []) (stands, tt)
 
     rule_stands : (t : Trigger) → StandsIn spec range (can_read_in spec (trigger_scope t)) (trigger_scope t) (variables_of (trigger_pattern t))
     rule_stands (trigger.Forward p) = record { variables = same_variables (bound_in p); sides = can_read_there (trigger_scope (trigger.Forward p)) }
@@ -116,31 +116,31 @@ module _ (spec : Spec) where
 
     body_among : (rule : PropRule) → Contains spec.rules rule → Contains (wholes_of spec) (body_of spec rule)
     body_among rule among =
-        Contains-append_left (map (body_of spec) spec.rules) (flat_map (λ m. optional (message_scope m) truth_want m.condition) spec.messages) (body_of spec rule) (in_map (body_of spec) spec.rules rule among)
+        Contains-append_left (map (body_of spec) spec.rules) (flat_map (λ m. optional (message_scope m) expected_truth m.condition) spec.messages) (body_of spec rule) (in_map (body_of spec) spec.rules rule among)
 
-    pub body_range : (rule : PropRule) → Contains spec.rules rule → (t : Typing) → body_want (property_named spec rule.property.text) ≡ known t → range rule.body ≡ range_of spec.lattices t
+    pub body_range : (rule : PropRule) → Contains spec.rules rule → (t : Typing) → expected_body (property_named spec rule.property.text) ≡ known t → range rule.body ≡ range_of spec.lattices t
     body_range rule among t e = whole_range (body_of spec rule) (body_among rule among) (good_body spec faultless rule among) t e
 
     pub body_typed : (rule : PropRule) → Contains spec.rules rule → AreTyped spec (usable_in spec (trigger_scope rule.trigger)) range (held (variables_of (trigger_pattern rule.trigger)) rule.body ∷ [])
     body_typed rule among =
         whole_typed (can_read_in spec (trigger_scope rule.trigger)) (body_of spec rule) (body_among rule among) (good_body spec faultless rule among) (held (variables_of (trigger_pattern rule.trigger)) rule.body) (record { expr = refl; scope = rule_stands rule.trigger })
 
-    condition_among : (m : Message) (e : Expr) → Contains spec.messages m → m.condition ≡ Some e → Contains (wholes_of spec) (place (message_scope m) truth_want e)
+    condition_among : (m : Message) (e : Expr) → Contains spec.messages m → m.condition ≡ Some e → Contains (wholes_of spec) (occurrence (message_scope m) expected_truth e)
     condition_among m e among is_some =
-        let q = place (message_scope m) truth_want e in
+        let q = occurrence (message_scope m) expected_truth e in
         let k = in_at spec.messages m among in
-        Contains-append_right (map (body_of spec) spec.rules) (flat_map (λ m. optional (message_scope m) truth_want m.condition) spec.messages) q
-        (in_flat (λ m. optional (message_scope m) truth_want m.condition) spec.messages k.0 m q k.1 (subst (λ (c : Option Expr). Contains (optional (message_scope m) truth_want c) q) (sym is_some) (Contains_here q [])))
+        Contains-append_right (map (body_of spec) spec.rules) (flat_map (λ m. optional (message_scope m) expected_truth m.condition) spec.messages) q
+        (in_flat (λ m. optional (message_scope m) expected_truth m.condition) spec.messages k.0 m q k.1 (subst (λ (c : Option Expr). Contains (optional (message_scope m) expected_truth c) q) (sym is_some) (Contains_here q [])))
 
-    condition_clean : (m : Message) (e : Expr) → Contains spec.messages m → m.condition ≡ Some e → IsGood spec (place (message_scope m) truth_want e)
-    condition_clean m e among is_some = (subst (λ (c : Option Expr). AllByRecursion (IsGood spec) (optional (message_scope m) truth_want c)) is_some (good_condition spec faultless m among)).0
+    condition_clean : (m : Message) (e : Expr) → Contains spec.messages m → m.condition ≡ Some e → IsGood spec (occurrence (message_scope m) expected_truth e)
+    condition_clean m e among is_some = (subst (λ (c : Option Expr). AllByRecursion (IsGood spec) (optional (message_scope m) expected_truth c)) is_some (good_condition spec faultless m among)).0
 
     pub condition_range : (m : Message) (e : Expr) → Contains spec.messages m → m.condition ≡ Some e → range e ≡ truths
-    condition_range m e among is_some = whole_range (place (message_scope m) truth_want e) (condition_among m e among is_some) (condition_clean m e among is_some) truth refl
+    condition_range m e among is_some = whole_range (occurrence (message_scope m) expected_truth e) (condition_among m e among is_some) (condition_clean m e among is_some) truth refl
 
     pub condition_typed : (m : Message) (e : Expr) → Contains spec.messages m → m.condition ≡ Some e → AreTyped spec (usable_in spec (message_scope m)) range (held (variables_of m.pattern) e ∷ [])
     condition_typed m e among is_some =
-        whole_typed (can_read_in spec (message_scope m)) (place (message_scope m) truth_want e) (condition_among m e among is_some) (condition_clean m e among is_some)
+        whole_typed (can_read_in spec (message_scope m)) (occurrence (message_scope m) expected_truth e) (condition_among m e among is_some) (condition_clean m e among is_some)
         (held (variables_of m.pattern) e) (record { expr = refl; scope = record { variables = same_variables (bound_in m.pattern); sides = can_read_there (message_scope m) } })
 
 pub bodies_typed : BodiesAreTyped

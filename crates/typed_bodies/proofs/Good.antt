@@ -11,12 +11,12 @@ use Rattle.flow_syntax.specs.declared.spec.Spec.{Spec}
 use Rattle.flow_syntax.specs.Binders.{bound_in}
 use Rattle.flow_syntax.specs.DeclFaults.{unknown, property}
 use Rattle.flow_syntax.specs.Expressions.{expressions_of}
-use Rattle.flow_syntax.specs.ExprFaults.{body_want, trigger_pattern, trigger_scope, message_scope}
+use Rattle.flow_syntax.specs.ExprFaults.{expected_body, trigger_pattern, trigger_scope, message_scope}
 use Rattle.flow_syntax.specs.Faults.{declaration}
-use Rattle.flow_syntax.specs.Telling.{is, property_named, property_telling}
+use Rattle.flow_syntax.specs.Inferred.{is, property_named, property_inferred}
 use Rattle.flow_syntax.specs.Types.{Typing}
-use Rattle.flow_syntax.specs.Wants.{known}
-use Rattle.expr_types.proofs.Order.{types_in_order}
+use Rattle.flow_syntax.specs.Expected.{known}
+use Rattle.expr_typing.proofs.Order.{types_in_order}
 use Rattle.expr_meaning.specs.Ranges.{Range, values}
 use Rattle.expr_meaning.specs.SpecRanges.{Agrees, can_read_in, usable_in, variables_of, ranges_of, type_beside}
 use Rattle.expr_meaning.specs.Laws.{HasTables}
@@ -43,12 +43,12 @@ module _ (spec : Spec) (types : List Typing) (typed : IsTypedBy spec types) wher
   pub agree : Agrees spec types (ranges_of spec types)
   agree =
       let order = (types_in_order spec types).0 typed.are in
-      ranges_agree spec types typed.distinct (sym (zip_length _ order.places types order.have) ∙ sym (length-map order.places (λ p. p.expr)) ∙ ap length order.stand)
+      ranges_agree spec types typed.distinct (sym (zip_length _ order.occurrences types order.have) ∙ sym (length-map order.occurrences (λ p. p.expr)) ∙ ap length order.stand)
 
   pub tables : HasLawfulTables spec → HasTables spec (ranges_of spec types)
   tables lawful = record { lawful = λ e. range_lawful spec lawful.lattices (type_beside (expressions_of spec) types e); results = lawful.results; monotone = lawful.monotone }
 
-  told_body : (o : Option PropDecl) (t : Typing) → property_telling o ≡ is t → body_want o ≡ known t
+  told_body : (o : Option PropDecl) (t : Typing) → property_inferred o ≡ is t → expected_body o ≡ known t
   told_body (Some p) t e = cc
   told_body None t e = cc
 

@@ -4,5 +4,5 @@ pub mod Forms
 pub mod Good
 pub mod Listed
 pub mod Names
-pub mod Places
+pub mod Occurrences
 pub mod Tables

@@ -6,17 +6,17 @@ use Rattle.std.proofs.lemmas.List.Elements.{Contains-append_left, Contains-appen
 use Rattle.flow_syntax.specs.declared.expr.Expr.{Expr}
 use Rattle.flow_syntax.specs.declared.spec.Spec.{Spec}
 use Rattle.flow_syntax.specs.Expressions.{expr_layer, parts_of as exprs_of, preorder, all_of_option, expressions_of, expressions_of_message}
-use Rattle.flow_syntax.specs.ExprPlaces.{Place, parts_of}
+use Rattle.flow_syntax.specs.Occurrences.{Occurrence, parts_of}
 use Rattle.flow_syntax.specs.ExprTypes.{wholes_of}
 use Rattle.flow_syntax.specs.Types.{Typing}
 use Rattle.flow_syntax.proofs.Listed.{Contains_here, Contains_behind}
 use Rattle.flow_syntax.proofs.Parts.{by_induction}
 use Rattle.flow_syntax.proofs.Preorders.{preorder_out}
-use Rattle.expr_types.specs.Listing.{ArePlaces, nowhere, there}
-use Rattle.expr_types.proofs.Order.{exprs_parts, types_in_order}
+use Rattle.expr_typing.specs.Listing.{AreOccurrences, nowhere, there}
+use Rattle.expr_typing.proofs.Order.{exprs_parts, types_in_order}
 use Rattle.expr_meaning.specs.Making.{HasParts}
 use Rattle.typed_bodies.specs.Accepted.{IsTypedBy}
-use Rattle.typed_bodies.specs.Anywhere.{IsPlaceIn, whole, part}
+use Rattle.typed_bodies.specs.Anywhere.{IsOccurrenceIn, whole, part}
 use Rattle.typed_bodies.proofs.Bodies.{in_map}
 
 -- LISTS THAT HAVE THE PARTS OF EACH
@@ -64,16 +64,16 @@ expressions_parts spec =
 -- PLACES
 
 module _ (spec : Spec) where
-  in_places : (ps places : List Place) → ArePlaces spec ps places → (q : Place) → Contains ps q → Contains places q
-  in_places _ _ nowhere q among = among
-  in_places _ _ (there p ps inner others d e) q (zero, l, i) = subst (λ (y : Place). Contains (p ∷ inner ++ others) y) i (Contains_here p (inner ++ others))
-  in_places _ _ (there p ps inner others d e) q (suc k, l, i) = Contains_behind p (inner ++ others) q (Contains-append_right inner others q (in_places ps others e q (k, omega arith, i)))
+  in_occurrences : (ps occurrences : List Occurrence) → AreOccurrences spec ps occurrences → (q : Occurrence) → Contains ps q → Contains occurrences q
+  in_occurrences _ _ nowhere q among = among
+  in_occurrences _ _ (there p ps inner others d e) q (zero, l, i) = subst (λ (y : Occurrence). Contains (p ∷ inner ++ others) y) i (Contains_here p (inner ++ others))
+  in_occurrences _ _ (there p ps inner others d e) q (suc k, l, i) = Contains_behind p (inner ++ others) q (Contains-append_right inner others q (in_occurrences ps others e q (k, omega arith, i)))
 
   -- an expression that stands at a place is one of the specification's
-  pub place_listed : (types : List Typing) → IsTypedBy spec types → (q : Place) → IsPlaceIn spec q → Contains (expressions_of spec) q.expr
+  pub place_listed : (types : List Typing) → IsTypedBy spec types → (q : Occurrence) → IsOccurrenceIn spec q → Contains (expressions_of spec) q.expr
   place_listed types typed _ (whole q among) =
       let order = (types_in_order spec types).0 typed.are in
-      subst (λ (es : List Expr). Contains es q.expr) order.stand (in_map (λ (p : Place). p.expr) order.places q (in_places (wholes_of spec) order.places order.all q among))
+      subst (λ (es : List Expr). Contains es q.expr) order.stand (in_map (λ (p : Occurrence). p.expr) order.occurrences q (in_occurrences (wholes_of spec) order.occurrences order.all q among))
   place_listed types typed _ (part p q stands among) =
       expressions_parts spec p.expr q.expr (place_listed types typed p stands)
-      (subst (λ (es : List Expr). Contains es q.expr) (exprs_parts spec p.scope p.want (expr_layer p.expr)) (in_map (λ (r : Place). r.expr) (parts_of spec p) q among))
+      (subst (λ (es : List Expr). Contains es q.expr) (exprs_parts spec p.scope p.expected (expr_layer p.expr)) (in_map (λ (r : Occurrence). r.expr) (parts_of spec p) q among))

@@ -14,7 +14,7 @@ use Rattle.flow_syntax.specs.declared.tables.TableDecl.{TableDecl}
 use Rattle.flow_syntax.specs.DeclFaults.{type as declared_again, duplicate}
 use Rattle.flow_syntax.specs.Faults.{HasNoFault, declaration}
 use Rattle.flow_syntax.specs.Scopes.{Variable}
-use Rattle.flow_syntax.specs.Telling.{is, is_among, lattice_with, constant_typing, name_telling}
+use Rattle.flow_syntax.specs.Inferred.{is, is_among, lattice_with, constant_typing, name_inferred}
 use Rattle.flow_syntax.specs.Types.{Typing, lattice, table, element, enum_sort}
 use Rattle.expr_meaning.specs.Ranges.{Range, range_of}
 use Rattle.value_domains.specs.Domains.{place_in, has_element, table_named, table_of}
@@ -64,7 +64,7 @@ element_listed spec faultless x d e =
       before = omega (arith, before);
       first = at j a is_a;
       second = at r.0 d r.1;
-      like = same;
+      same_type_as = same;
     })) refl))) in
     subst (λ (o : Option TableDecl). IsTrue (has_element (table_of o) x)) (sym first) (any_text x d.elements ∙ r.2)
 
@@ -93,11 +93,11 @@ variable_found x (v ∷ vs) = by (bytes_eq x v.name) (variable_found x vs)
 
 -- a name without a fault is a variable, an item or an element
 pub name_right : (spec : Spec) (x : List ℕ) (own : Range) (o : Option Sorted) (c : Option EnumDecl) (l : Option TableDecl)
-    → ((t : Typing) → name_telling (option_map in_scope o) (constant_typing c l) ≡ is t → own ≡ range_of spec.lattices t)
+    → ((t : Typing) → name_inferred (option_map in_scope o) (constant_typing c l) ≡ is t → own ≡ range_of spec.lattices t)
     → ¬ ((option_map in_scope o ≡ None) × (constant_typing c l ≡ None))
     → ((d : TableDecl) → l ≡ Some d → IsTrue (has_element (table_named spec.lattices d.name.text) x))
     → IsNamed spec o c own x
-name_right spec x own (Some v) c l told named listed = told (element v.sort) refl
-name_right spec x own None (Some e) l told named listed = told (element (enum_sort e.name.text)) refl
-name_right spec x own None None (Some d) told named listed = (d.name, told (lattice (table d.name.text)) refl, listed d refl)
-name_right spec x own None None None told named listed = absurd (named (refl, refl))
+name_right spec x own (Some v) c l inferred named listed = inferred (element v.sort) refl
+name_right spec x own None (Some e) l inferred named listed = inferred (element (enum_sort e.name.text)) refl
+name_right spec x own None None (Some d) inferred named listed = (d.name, inferred (lattice (table d.name.text)) refl, listed d refl)
+name_right spec x own None None None inferred named listed = absurd (named (refl, refl))

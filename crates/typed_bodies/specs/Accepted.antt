@@ -14,7 +14,7 @@ use Rattle.flow_syntax.specs.Binders.{bound_in}
 use Rattle.flow_syntax.specs.ExprFaults.{trigger_pattern, trigger_scope, message_scope}
 use Rattle.flow_syntax.specs.ExprTypes.{AreTypes}
 use Rattle.flow_syntax.specs.Faults.{HasNoFault}
-use Rattle.flow_syntax.specs.Telling.{function_named}
+use Rattle.flow_syntax.specs.Inferred.{function_named}
 use Rattle.value_domains.specs.Values.{IsOfSort}
 use Rattle.flow_syntax.specs.Types.{Typing}
 use Rattle.expr_meaning.specs.Ranges.{values, truths}

@@ -7,7 +7,7 @@ use Rattle.flow_syntax.specs.declared.expr.ExprKind.TheOpen.{ExprKind-F}
 use Rattle.flow_syntax.specs.declared.expr.Side.{Side}
 use Rattle.flow_syntax.specs.declared.spec.Spec.{Spec}
 use Rattle.flow_syntax.specs.Expressions.{expressions_of, parts_in}
-use Rattle.flow_syntax.specs.ExprPlaces.{Place, parts_of}
+use Rattle.flow_syntax.specs.Occurrences.{Occurrence, parts_of}
 use Rattle.flow_syntax.specs.ExprTypes.{wholes_of}
 use Rattle.flow_syntax.specs.Scopes.{Scope}
 use Rattle.flow_syntax.specs.Types.{Sort, int_sort, Typing}
@@ -22,9 +22,9 @@ use Rattle.expr_meaning.specs.Typing.{Variable, IsIn, Suits}
 use Rattle.typed_bodies.specs.Accepted.{IsTypedBy, HasLawfulTables, sense_of}
 
 -- An expression of a specification stands at this place: a whole one, or a part of one.
-pub data IsPlaceIn (spec : Spec) : Place → Type 0 where
-  whole : (q : Place) → Contains (wholes_of spec) q → IsPlaceIn spec q
-  part : (p q : Place) → IsPlaceIn spec p → Contains (parts_of spec p) q → IsPlaceIn spec q
+pub data IsOccurrenceIn (spec : Spec) : Occurrence → Type 0 where
+  whole : (q : Occurrence) → Contains (wholes_of spec) q → IsOccurrenceIn spec q
+  part : (p q : Occurrence) → IsOccurrenceIn spec p → Contains (parts_of spec p) q → IsOccurrenceIn spec q
 
 -- whether an expression of a form reads the property of this number at this side, or a part of it does
 abbrev pub reads_in : Spec → PartLayer (ℕ → Side → Bool) → ℕ → Side → Bool
@@ -55,24 +55,24 @@ abbrev pub used_by : Spec → Expr → Usable
 used_by spec e = record { domain = domains_of spec; has = reads_at spec e; names = names_at e }
 
 -- an expression can be evaluated where it stands: the variables that it has are bound, and each value that it reads is one of the property's domain
-abbrev pub CanEvaluate : Spec → Place → Situation → Type 0
+abbrev pub CanEvaluate : Spec → Occurrence → Situation → Type 0
 CanEvaluate spec q = Suits (used_by spec q.expr) (variables_at q.scope)
 
 -- an expression gives a meaning in the range of its type, and follows what it reads by its mode
-pub record IsGoodAt (spec : Spec) (types : List Typing) (q : Place) : Type 0 where
+pub record IsGoodAt (spec : Spec) (types : List Typing) (q : Occurrence) : Type 0 where
   pub value : (at : Situation) → CanEvaluate spec q at → IsIn (ranges_of spec types q.expr) (sense_of spec types q.expr at)
   pub follows : FollowsBy (used_by spec q.expr) (CanEvaluate spec q) (ranges_of spec types q.expr) (sense_of spec types q.expr) (mode_of (ranges_of spec types) q.expr)
 
 abbrev pub ExpressionsAreGood : Type 0
-ExpressionsAreGood = (spec : Spec) (types : List Typing) → IsTypedBy spec types → HasLawfulTables spec → (q : Place) → IsPlaceIn spec q → IsGoodAt spec types q
+ExpressionsAreGood = (spec : Spec) (types : List Typing) → IsTypedBy spec types → HasLawfulTables spec → (q : Occurrence) → IsOccurrenceIn spec q → IsGoodAt spec types q
 
 -- each expression of a specification stands somewhere
 abbrev pub ExpressionsStand : Type 0
-ExpressionsStand = (spec : Spec) (types : List Typing) → IsTypedBy spec types → (e : Expr) → Contains (expressions_of spec) e → (q : Place) × IsPlaceIn spec q × (q.expr ≡ e)
+ExpressionsStand = (spec : Spec) (types : List Typing) → IsTypedBy spec types → (e : Expr) → Contains (expressions_of spec) e → (q : Occurrence) × IsOccurrenceIn spec q × (q.expr ≡ e)
 
 -- What an expression means holds only elements that bindings and reads hold, texts of the specification, items of enums, and integers: those of any collection
 -- that has them.
 abbrev pub ExpressionsMakeNoOthers : Type 0
 ExpressionsMakeNoOthers = (spec : Spec) (types : List Typing) → IsTypedBy spec types → HasLawfulTables spec → (among : Elem → Bool) → HasMade (λ x. IsTrue (among x)) spec (expressions_of spec)
-    → (q : Place) → IsPlaceIn spec q → (at : Situation) → CanEvaluate spec q at → SituationHolds (λ x. IsTrue (among x)) (used_by spec q.expr) at
+    → (q : Occurrence) → IsOccurrenceIn spec q → (at : Situation) → CanEvaluate spec q at → SituationHolds (λ x. IsTrue (among x)) (used_by spec q.expr) at
     → MeaningHolds (λ x. IsTrue (among x)) (ranges_of spec types q.expr) (sense_of spec types q.expr at)

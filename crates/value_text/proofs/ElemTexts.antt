@@ -7,7 +7,7 @@ use Rattle.flow_term.specs.declared.elem.Elem.{Elem, Elem-F, out-Elem, roll-Elem
 use Rattle.flow_term.specs.declared.elem.Elem.TheVariants as elem
 use Rattle.flow_term.specs.Paths.{path_text}
 use Rattle.value_text.specs.Texts.{elem_layer_text, elem_text, pair_text, MayBeWritten, HasElemText}
-use Rattle.value_text.specs.Reading.{Reading, ◌>>=◌, as_part, begins_integer, begins_with, behind, decimal_of, elem_below, elem_with, item_of, pair_with, path_of, plain_elem, quoted_of, token_elem, token_of}
+use Rattle.value_text.specs.inner.Reading.{Reading, ◌>>=◌, as_part, begins_integer, begins_with, behind, decimal_of, elem_below, elem_with, item_of, pair_with, path_of, plain_elem, quoted_of, token_elem, token_of}
 use Rattle.value_text.proofs.Told.{both_are, bound, mapped, part_is}
 use Rattle.value_text.proofs.Identifiers.{item_is}
 use Rattle.value_text.proofs.Leaves.{decimal_is, identifier_token, int_read, integer_token, item_read, path_token, pos_read}

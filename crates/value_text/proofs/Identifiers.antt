@@ -8,7 +8,7 @@ use Rattle.std.proofs.lemmas.Bool.Decides.{same_from_decides}
 use Rattle.flow_syntax.specs.Accepted.{IsIdentifier}
 use Rattle.flow_syntax.specs.Tokens.{is_name_byte, reserved_words}
 use Rattle.flow_syntax.proofs.Fronts.{any_found, found_any}
-use Rattle.value_text.specs.Reading.{is_item, item_of, text_of}
+use Rattle.value_text.specs.inner.Reading.{is_item, item_of, text_of}
 use Rattle.value_text.proofs.Told.{bound, not_holds, not_told, one_is, passed}
 use Rattle.value_text.proofs.Numbers.{both}
 use Rattle.value_text.proofs.Tokens.{text_is}

@@ -18,7 +18,7 @@ use Rattle.flow_term.specs.Paths.{AreSteps, path_text, step_text}
 use Rattle.flow_syntax.specs.Accepted.{IsIdentifier}
 use Rattle.flow_syntax.specs.Tokens.{is_name_byte, reserved_words}
 use Rattle.value_text.specs.Integers.{IsI64}
-use Rattle.value_text.specs.Reading.{begins_integer, begins_with, decimal_of, integer_of, is_token_byte, item_of, number_in, plain_elem, token_elem}
+use Rattle.value_text.specs.inner.Reading.{begins_integer, begins_with, decimal_of, integer_of, is_token_byte, item_of, number_in, plain_elem, token_elem}
 use Rattle.value_text.proofs.Told.{bound, one_is, passed}
 use Rattle.value_text.proofs.Identifiers.{item_read_of}
 use Rattle.value_text.proofs.Numbers.{own, both, fits_i64, number_back, number_small}

@@ -6,7 +6,7 @@ use Rattle.std.specs.List.{flat_map}
 use Rattle.std.proofs.lemmas.Bool.{both_ways, cases_Bool}
 use Rattle.flow_syntax.proofs.Fronts.{chosen}
 use Rattle.value_text.specs.Texts.{behind_comma, listed}
-use Rattle.value_text.specs.Reading.{Reading, ◌>>=◌, all_listed, begins_with, behind, listed_part, next_part, until}
+use Rattle.value_text.specs.inner.Reading.{Reading, ◌>>=◌, all_listed, begins_with, behind, listed_part, next_part, until}
 use Rattle.value_text.proofs.Told.{both_are, bound, kept, one_is}
 use Rattle.value_text.proofs.Tokens.{EndsToken, behind_is, behind_read, is_first}
 use Rattle.value_text.proofs.Turns.{closed, end, listed_read, no_turns, turn, turned}

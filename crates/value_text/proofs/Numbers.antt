@@ -16,7 +16,7 @@ use Rattle.std.proofs.lemmas.Str.Parse.{IsNumeralModel, numerals_by_value, tells
 use mir.Val.{to_z, of_z}
 use Rattle.value_text.specs.Integers.{IsI64}
 use Rattle.value_text.proofs.Told.{one_is, passed}
-use Rattle.value_text.specs.Reading.{is_i64, is_numeral, number_in}
+use Rattle.value_text.specs.inner.Reading.{is_i64, is_numeral, number_in}
 
 pub own : IsNumeralModel (λ ds. all_ascii_digits ds ≡ true) (digits_value 10)
 own = numerals_by_value _ tells_all_ascii_digits

@@ -13,7 +13,7 @@ use Rattle.flow_term.specs.declared.path_text.PathRefusal.{PathRefusal}
 use Rattle.flow_term.specs.declared.path_text.PathRefusal.TheVariants as paths
 use Rattle.flow_term.specs.Paths.{AreSteps, IsReadAs, path_text, step_text}
 use Rattle.value_text.specs.declared.refusal.ValueRefusal.{ValueRefusal}
-use Rattle.value_text.specs.Reading.{GivesNone, IsOfPath, path_if, path_of, steps_after, steps_behind}
+use Rattle.value_text.specs.inner.Reading.{GivesNone, IsOfPath, path_if, path_of, steps_after, steps_behind}
 use Rattle.value_text.proofs.Told.{one_is, passed}
 use Rattle.value_text.proofs.Numbers.{own, both}
 

@@ -6,7 +6,7 @@ use Rattle.std.specs.List.{flat_map}
 use Rattle.std.proofs.lemmas.Bool.Decides.{nat_tests}
 use Rattle.flow_syntax.specs.Lexing.{octal_value}
 use Rattle.value_text.specs.Texts.{byte_text}
-use Rattle.value_text.specs.Reading.{Reading, ◌>>=◌, all_until, begins_with, behind, escape_of, part_of, quoted_of, spelled, text_of, until}
+use Rattle.value_text.specs.inner.Reading.{Reading, ◌>>=◌, all_until, begins_with, behind, escape_of, part_of, quoted_of, spelled, text_of, until}
 use Rattle.value_text.proofs.Told.{both_are, bound}
 use Rattle.value_text.proofs.Tokens.{behind_is, behind_read, is_a_text, is_first, text_is}
 use Rattle.value_text.proofs.Turns.{end, no_turns, turn, turned}

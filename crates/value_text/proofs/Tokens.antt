@@ -11,7 +11,7 @@ use Rattle.std.proofs.lemmas.List.{take-append-drop}
 use Rattle.std.proofs.lemmas.Slice.Eq.{bytes_eq-Decides}
 use Rattle.std.proofs.lemmas.Str.{IsUtf8-from_ascii, IsUtf8-from_is_utf8, is_utf8-from_IsUtf8}
 use Rattle.flow_syntax.proofs.Characters.{ascii_text}
-use Rattle.value_text.specs.Reading.{begins_with, behind, is_token_byte, text_of, token_len, token_of}
+use Rattle.value_text.specs.inner.Reading.{begins_with, behind, is_token_byte, text_of, token_len, token_of}
 use Rattle.value_text.proofs.Told.{both_are, kept, one_is, passed}
 use Rattle.value_text.proofs.Numbers.{both}
 

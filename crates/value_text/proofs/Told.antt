@@ -1,7 +1,7 @@
 -- What an answer tells of the answers that it was made of.
 use Rattle.std.proofs.Common.{◌≡◌, Bool, true, false, List, ℕ, Some, None, Option, refl, ap}
 use Rattle.std.specs.Prelude.{if◌then◌else◌, not, option_map, unwrap_or}
-use Rattle.value_text.specs.Reading.{Reading, ◌>>=◌, as_part}
+use Rattle.value_text.specs.inner.Reading.{Reading, ◌>>=◌, as_part}
 
 pub bound : {A B : Type 0} (o : Option A) (f : A → Option B) (y : B) → (o >>= f) ≡ Some y → (x : A) × (o ≡ Some x) × (f x ≡ Some y)
 bound None f y e = absurd cc

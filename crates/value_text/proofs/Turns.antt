@@ -6,7 +6,7 @@ use Rattle.std.proofs.lemmas.Bool.Decides.{nat_tests}
 use Rattle.flow_syntax.proofs.Fronts.{chosen}
 use Rattle.value_text.specs.declared.refusal.ValueRefusal.{ValueRefusal}
 use Rattle.value_text.specs.declared.refusal.ValueRefusal.TheVariants as refusals
-use Rattle.value_text.specs.Reading.{Reading, GivesNone, ◌>>=◌, begins_with, listed_part, next_part, until, all_until, continued}
+use Rattle.value_text.specs.inner.Reading.{Reading, GivesNone, ◌>>=◌, begins_with, listed_part, next_part, until, all_until, continued}
 use Rattle.value_text.proofs.Told.{both_are, bound, passed}
 
 pub option_cases : {X : Type 0} (o : Option X) → (o ≡ None) ⊎ ((x : X) × (o ≡ Some x))

@@ -16,7 +16,7 @@ use Rattle.value_text.specs.declared.refusal.ValueRefusal.TheVariants as refusal
 use Rattle.value_text.specs.Laws.{HasOneValue, IsReadAs, IsTextOf}
 use Rattle.value_text.specs.Rising.{rises}
 use Rattle.value_text.specs.Texts.{elem_text, entry_layer_text, entry_text, keys, listed, value_layer_text, value_text, HasElemText, HasValueText, IsPlain, IsPlainOrAround}
-use Rattle.value_text.specs.Reading.{Reading, GivesNone, ◌>>=◌, all_listed, begins_with, behind, elem_below, entry_with, flat_with, item_of, map_with, pair_with, plain_value, set_with, token_of, value_below, value_with, word_with}
+use Rattle.value_text.specs.inner.Reading.{Reading, GivesNone, ◌>>=◌, all_listed, begins_with, behind, elem_below, entry_with, flat_with, item_of, map_with, pair_with, plain_value, set_with, token_of, value_below, value_with, word_with}
 use Rattle.value_text.proofs.Told.{both_are, bound, kept, passed}
 use Rattle.value_text.proofs.ElemTexts.{brace, bracket_none, elem_is, elem_read, no_elem, pair_flat, pair_is, pair_read}
 use Rattle.value_text.proofs.Forms.{rising, rising_is_told, tested}

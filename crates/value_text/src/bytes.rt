@@ -1,6 +1,6 @@
 //! What bytes begin with.
 ghost use Rattle.std.specs.Prelude.{◌≡◌, ◌+◌, ◌<◌, ◌≤◌, IfOk, length, drop};
-ghost use Rattle.value_text.specs.Reading.{Gives, begins_with, behind, is_token_byte, next_part, text_of, token_len, token_of};
+ghost use Rattle.value_text.specs.inner.Reading.{Gives, begins_with, behind, is_token_byte, next_part, text_of, token_len, token_of};
 
 use crate::refusal::ValueRefusal;
 use flow_term::{List, Text};

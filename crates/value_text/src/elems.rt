@@ -1,7 +1,7 @@
 //! Reading elements.
 ghost use Rattle.std.specs.Prelude.{◌≡◌, ◌<◌, ◌≤◌, IfOk, length, codes};
 ghost use Rattle.flow_term.specs.declared.elem.Elem.TheVariants.{Pair};
-ghost use Rattle.value_text.specs.Reading.{Gives, all_listed, decimal_of, elem_below, elem_with, integer_of, pair_with, path_of, plain_elem, token_elem};
+ghost use Rattle.value_text.specs.inner.Reading.{Gives, all_listed, decimal_of, elem_below, elem_with, integer_of, pair_with, path_of, plain_elem, token_elem};
 
 use crate::bytes::{Reading, begins_with, behind, behind_first, next_part, read_token};
 use crate::identifier::item_of;

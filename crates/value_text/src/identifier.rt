@@ -3,7 +3,7 @@ ghost use Rattle.std.specs.Prelude.{◌≡◌, ◌↔◌, IsTrue};
 ghost use Rattle.std.specs.List.{list_all};
 ghost use Rattle.flow_syntax.specs.Accepted.{IsIdentifier};
 ghost use Rattle.flow_syntax.specs.Tokens.{IsName, is_name_byte};
-ghost use Rattle.value_text.specs.Reading.{Gives, item_of};
+ghost use Rattle.value_text.specs.inner.Reading.{Gives, item_of};
 
 use crate::bytes::text_of;
 use crate::refusal::ValueRefusal;

@@ -1,6 +1,6 @@
 //! Texts between quotes.
 ghost use Rattle.std.specs.Prelude.{◌≡◌, ◌+◌, ◌<◌, ◌≤◌, IfOk, length};
-ghost use Rattle.value_text.specs.Reading.{Gives, all_until, behind, escape_of, octal_at, part_of, quoted_of, spelled};
+ghost use Rattle.value_text.specs.inner.Reading.{Gives, all_until, behind, escape_of, octal_at, part_of, quoted_of, spelled};
 ghost use Rattle.flow_syntax.specs.Lexing.{octal_value};
 ghost use Rattle.value_text.specs.Texts.{byte_text};
 

@@ -23,7 +23,7 @@ impl From<AllocError> for ValueRefusal {
 }
 
 impl From<PathRefusal> for ValueRefusal {
-    ghost use Rattle.value_text.specs.Reading.{IsOfPath};
+    ghost use Rattle.value_text.specs.inner.Reading.{IsOfPath};
 
     ghost from_gives = { IsOfPath };
 

@@ -1,7 +1,7 @@
 //! Reading values.
 ghost use Rattle.std.specs.Prelude.{◌≡◌, ◌<◌, ◌≤◌, IfOk, length, codes};
 ghost use Rattle.flow_term.specs.declared.value.Value.TheVariants.{Pair};
-ghost use Rattle.value_text.specs.Reading.{Gives, all_listed, elem_below, entry_with, flat_with, map_with, pair_with, plain_value, set_with, value_below, value_with, word_with};
+ghost use Rattle.value_text.specs.inner.Reading.{Gives, all_listed, elem_below, entry_with, flat_with, map_with, pair_with, plain_value, set_with, value_below, value_with, word_with};
 
 use crate::bytes::{Reading, begins_with, behind, behind_first, next_part, read_token};
 use crate::elems::{read_elem_below, read_elems};

@@ -6,10 +6,10 @@ use Rattle.flow_term.specs.declared.term.Term.{Term}
 use Rattle.flow_term.specs.Paths.{path_text}
 use Rattle.aterm_text.proofs.Reading.{one_answer}
 use Rattle.aterm_text.specs.Grammar.{TermText}
-use Rattle.grammar.proofs.FaultLemmas.{same_fault}
+use Rattle.grammar_theory.proofs.FaultLemmas.{same_fault}
 use Rattle.spec_grammar.specs.Symbols.{Whole}
 use Rattle.spec_grammar.specs.Syntax.{spec_syntax, nesting_limit}
-use Rattle.earliest_fault.specs.Earliest.{IsNoLater, kind_rank}
+use Rattle.check_base.specs.Earliest.{IsNoLater, kind_rank}
 use Rattle.flow_syntax.proofs.TokenTexts.{text_same, text_or_fault, faulty_same}
 use Rattle.flow_syntax.specs.declared.fault.SpecFaultKind.{SpecFaultKind}
 use Rattle.flow_syntax.specs.declared.fault.SpecFaultKind.TheVariants.{Unknown, Duplicate, Arity, Sort, Unbound, MixedDirection, WrongEnd, MixedItem, Nested, Depth}

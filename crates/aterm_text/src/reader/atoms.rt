@@ -1,8 +1,8 @@
 //! Symbols and numbers.
 ghost use Rattle.std.specs.Prelude.{◌≡◌, ◌++◌, ◌∷◌, [], reverse};
 ghost use Rattle.aterm_text.specs.Bytes.{class_of};
-ghost use Rattle.aterm_text.specs.Machine.{in_symbol, after_name, after_minus, in_number, after_number, after_integer};
-ghost use Rattle.aterm_text.specs.Answers.{Answers};
+ghost use Rattle.aterm_text.specs.inner.Machine.{in_symbol, after_name, after_minus, in_number, after_number, after_integer};
+ghost use Rattle.aterm_text.specs.inner.Answers.{Answers};
 
 use super::state::{Last, Reader};
 use super::terms::after_body;

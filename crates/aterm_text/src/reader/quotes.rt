@@ -1,8 +1,8 @@
 //! What stands between quotes, and behind it.
 ghost use Rattle.std.specs.Prelude.{◌≡◌, ◌<◌, ◌++◌, ◌∷◌, [], reverse, IsUtf8};
 ghost use Rattle.aterm_text.specs.Bytes.{class_of, short_escape, is_octal};
-ghost use Rattle.aterm_text.specs.Machine.{in_quotes, in_escape, in_one_octal, in_two_octals, after_quotes};
-ghost use Rattle.aterm_text.specs.Answers.{Answers};
+ghost use Rattle.aterm_text.specs.inner.Machine.{in_quotes, in_escape, in_one_octal, in_two_octals, after_quotes};
+ghost use Rattle.aterm_text.specs.inner.Answers.{Answers};
 
 use super::state::{Escape, Last, Reader};
 use super::terms::after_body;

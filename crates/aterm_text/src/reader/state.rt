@@ -1,6 +1,6 @@
 ghost use Rattle.std.specs.Prelude.{◌≡◌, []};
-ghost use Rattle.aterm_text.specs.Machine.{nothing, closed_as, ended, finish};
-ghost use Rattle.aterm_text.specs.Answers.{state_of, AnswersTerm};
+ghost use Rattle.aterm_text.specs.inner.Machine.{nothing, closed_as, ended, finish};
+ghost use Rattle.aterm_text.specs.inner.Answers.{state_of, AnswersTerm};
 ghost use Rattle.aterm_text.specs.Grammar.{term};
 
 use crate::levels::Levels;

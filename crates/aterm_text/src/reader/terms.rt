@@ -1,8 +1,8 @@
 //! Bytes between terms, and the first byte of a term.
 ghost use Rattle.std.specs.Prelude.{◌≡◌, ◌+◌, reverse, true};
 ghost use Rattle.aterm_text.specs.Bytes.{class_of};
-ghost use Rattle.aterm_text.specs.Machine.{begin, begin_within, after, after_body, at_opening, at_start};
-ghost use Rattle.aterm_text.specs.Answers.{Answers};
+ghost use Rattle.aterm_text.specs.inner.Machine.{begin, begin_within, after, after_body, at_opening, at_start};
+ghost use Rattle.aterm_text.specs.inner.Answers.{Answers};
 
 use super::state::{Last, Reader, bare_term};
 use crate::class::ByteClass;

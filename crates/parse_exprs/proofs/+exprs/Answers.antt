@@ -7,7 +7,7 @@ use Rattle.spec_grammar.specs.Reading.{reads}
 use Rattle.spec_grammar.specs.Symbols.{AnExpr, ALevel, AnOperand, ANegation, AComparison, AnOpposite, ALookup, APrimary}
 use Rattle.spec_grammar.specs.declared.kind.Kind.TheVariants as kinds
 use Rattle.spec_grammar.specs.declared.level.BinaryLevel.TheVariants as levels
-use Rattle.token_scan.proofs.GivesLemmas.{fails_by, deep_fails}
+use Rattle.spec_grammar.proofs.GivesLemmas.{fails_by, deep_fails}
 use Rattle.parse_exprs.proofs.LevelLaws.{expr_conditional, expr_binding, expr_level, level_at, operated_at, operator_turn, operator_end, disjunction_operand, conjunction_operand, set_operation_operand, sum_operand, product_operand, bracketed_at, negation_not, negation_none, comparison_alone, comparison_two, comparison_fails, opposite_signed, opposite_none, lookup_at, suffix_at, suffix_turn, suffix_end}
 use Rattle.parse_exprs.proofs.PrimaryLaws.{primary_literal, primary_applied, primary_named, primary_parenthesis, primary_brace, primary_map, applied_at, named_called, called_arguments, one_argument, two_arguments, parenthesis_at, parenthesis_alone, parenthesis_pair, pair_at, brace_some, elements_chosen, elements_listed, comprehension_at, map_some, entries_at, entries_turn, entry_take}
 use Rattle.parse_exprs.proofs.+exprs.Goals as goal

@@ -1,4 +1,4 @@
-use Rattle.grammar.proofs.BeginLemmas.{to_cases, from_cases}
+use Rattle.grammar_theory.proofs.BeginLemmas.{to_cases, from_cases}
 use Rattle.spec_grammar.proofs.Checks.{checks}
 use Rattle.spec_grammar.proofs.beginnings_are_by_cases.Goals as goal
 use Rattle.spec_grammar.specs.Choice.{begins, continues}

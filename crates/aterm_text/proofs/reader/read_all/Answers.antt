@@ -1,6 +1,6 @@
 use Rattle.std.proofs.Common.{true}
-use Rattle.aterm_text.specs.Answers.{state_of}
-use Rattle.aterm_text.specs.Machine.{run, nothing}
+use Rattle.aterm_text.specs.inner.Answers.{state_of}
+use Rattle.aterm_text.specs.inner.Machine.{run, nothing}
 use Rattle.aterm_text.proofs.Reading.{ready_at, behind_more, ahead_more}
 use Rattle.aterm_text.proofs.reader.read_all.Goals as goal
 

@@ -1,7 +1,7 @@
 -- The bytes so far lead here, and what is left leads from here where all of them lead from the start.
 use Rattle.std.proofs.Common.{◌≡◌, true, Ok, take, drop}
-use Rattle.aterm_text.specs.Answers.{state_of}
-use Rattle.aterm_text.specs.Machine.{run, nothing}
+use Rattle.aterm_text.specs.inner.Answers.{state_of}
+use Rattle.aterm_text.specs.inner.Machine.{run, nothing}
 use Rattle.aterm_text.proofs.reader.read_all.Given as goal
 
 abbrev pub invariant-loop-at : goal.invariant-loop-at

@@ -3,7 +3,7 @@ use Rattle.std.proofs.lemmas.List.{take_more}
 use Rattle.flow_syntax.specs.declared.rule.Chain.{Chain}
 use Rattle.flow_syntax.specs.declared.rule.Item.{Item}
 use Rattle.flow_links.specs.Below.{Adds}
-use Rattle.flow_links.specs.Here.{PairsBelow, ChainsOf}
+use Rattle.flow_links.specs.inner.Here.{PairsBelow, ChainsOf}
 use Rattle.flow_links.proofs.BelowLemmas.{Adds-then, Adds-same}
 use Rattle.flow_links.proofs.HereLemmas.{chains_push}
 use Rattle.flow_links.proofs.chain.add_chains.Goals as goal

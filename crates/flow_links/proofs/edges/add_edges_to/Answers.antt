@@ -1,7 +1,7 @@
 use Rattle.std.proofs.Common.{◌≡◌, ℕ, ◌+◌, List, [], ◌∷◌, ◌++◌, get_or, take, sym, subst}
 use Rattle.std.proofs.lemmas.List.{take_more}
-use Rattle.flow_links.specs.Gains.{Gains}
-use Rattle.flow_links.specs.Numbers.{IsEdgeTo}
+use Rattle.flow_links.specs.inner.Gains.{Gains}
+use Rattle.flow_links.specs.inner.Numbers.{IsEdgeTo}
 use Rattle.flow_links.proofs.EdgeLemmas.{edges_to_more, no_edges_to}
 use Rattle.flow_links.proofs.SetLemmas.{Gains-none, Gains-same, Gains-then}
 use Rattle.flow_links.proofs.edges.add_edges_to.Goals as goal

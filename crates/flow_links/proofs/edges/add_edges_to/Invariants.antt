@@ -1,6 +1,6 @@
 use Rattle.std.proofs.Common.{take}
-use Rattle.flow_links.specs.Gains.{Gains}
-use Rattle.flow_links.specs.Numbers.{IsEdgeTo}
+use Rattle.flow_links.specs.inner.Gains.{Gains}
+use Rattle.flow_links.specs.inner.Numbers.{IsEdgeTo}
 use Rattle.flow_links.proofs.edges.add_edges_to.Given as goal
 
 abbrev pub invariant-loop-number : goal.invariant-loop-number

@@ -4,7 +4,7 @@ use Rattle.flow_term.specs.declared.graph.Edge.{Edge}
 use Rattle.flow_term.specs.contracts.graph.EdgeOrd.TheImpl as derived
 use Rattle.flow_term.specs.GraphLaws.{edges_ordered}
 use Rattle.flow_term.specs.Orders.{edge_cmp}
-use Rattle.flow_links.specs.Ends.{AreEdgesBy}
+use Rattle.flow_links.specs.inner.Ends.{AreEdgesBy}
 use Rattle.flow_links.proofs.EdgeLemmas.{arrows_within, edges_are_ways}
 use Rattle.flow_term.proofs.Outcomes.{both_ok, if_ok, iff_then}
 use Rattle.flow_links.proofs.SetLemmas.{Gains-all, sorted_alike}

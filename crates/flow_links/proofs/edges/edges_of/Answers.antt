@@ -1,7 +1,7 @@
 use Rattle.std.proofs.Common.{◌≡◌, ℕ, List, [], length, sym, subst, arith}
 use Rattle.flow_term.specs.declared.graph.Edge.{Edge}
-use Rattle.flow_links.specs.Gains.{Gains}
-use Rattle.flow_links.specs.Numbers.{IsEdgeBelow}
+use Rattle.flow_links.specs.inner.Gains.{Gains}
+use Rattle.flow_links.specs.inner.Numbers.{IsEdgeBelow}
 use Rattle.flow_links.proofs.EdgeLemmas.{edges_below_more, no_edges_below}
 use Rattle.flow_links.proofs.SetLemmas.{Gains-none, Gains-same, Gains-then}
 use Rattle.flow_links.proofs.edges.edges_of.Goals as goal

@@ -1,6 +1,6 @@
 use Rattle.std.proofs.Common.{◌≡◌, ℕ, subst, arith}
 use Rattle.flow_links.specs.Below.{Adds}
-use Rattle.flow_links.specs.Here.{NextBelow}
+use Rattle.flow_links.specs.inner.Here.{NextBelow}
 use Rattle.flow_links.proofs.BelowLemmas.{Adds-same, Adds-then}
 use Rattle.flow_links.proofs.HereLemmas.{nexts_more}
 use Rattle.flow_links.proofs.here.add_nexts.Goals as goal

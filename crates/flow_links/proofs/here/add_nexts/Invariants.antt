@@ -1,5 +1,5 @@
 use Rattle.flow_links.specs.Below.{Adds}
-use Rattle.flow_links.specs.Here.{NextBelow}
+use Rattle.flow_links.specs.inner.Here.{NextBelow}
 use Rattle.flow_links.proofs.here.add_nexts.Given as goal
 
 abbrev pub invariant-loop-k : goal.invariant-loop-k

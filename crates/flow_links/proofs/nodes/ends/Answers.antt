@@ -2,8 +2,8 @@ use Rattle.std.proofs.Common.{◌≡◌, ◌+◌, List, [], ◌∷◌, ◌++◌,
 use Rattle.std.proofs.lemmas.List.{take_more}
 use Rattle.flow_term.specs.declared.graph.Link.{Link}
 use Rattle.flow_term.specs.declared.graph.Node.{Node}
-use Rattle.flow_links.specs.Ends.{IsEnd}
-use Rattle.flow_links.specs.Gains.{Gains}
+use Rattle.flow_links.specs.inner.Ends.{IsEnd}
+use Rattle.flow_links.specs.inner.Gains.{Gains}
 use Rattle.flow_links.proofs.EndLemmas.{ends_more, no_ends}
 use Rattle.flow_links.proofs.SetLemmas.{Gains-none, Gains-same, Gains-then}
 use Rattle.flow_links.proofs.nodes.ends.Goals as goal

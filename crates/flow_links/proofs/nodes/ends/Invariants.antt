@@ -1,6 +1,6 @@
 use Rattle.std.proofs.Common.{[], take}
-use Rattle.flow_links.specs.Ends.{IsEnd}
-use Rattle.flow_links.specs.Gains.{Gains}
+use Rattle.flow_links.specs.inner.Ends.{IsEnd}
+use Rattle.flow_links.specs.inner.Gains.{Gains}
 use Rattle.flow_links.proofs.nodes.ends.Given as goal
 
 abbrev pub invariant-loop-link : goal.invariant-loop-link

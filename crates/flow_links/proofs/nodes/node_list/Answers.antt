@@ -5,7 +5,7 @@ use Rattle.flow_term.specs.declared.graph.Node.{Node}
 use Rattle.flow_term.specs.contracts.graph.NodeOrd.TheImpl as derived
 use Rattle.flow_term.specs.GraphLaws.{nodes_ordered}
 use Rattle.flow_term.specs.Orders.{node_cmp}
-use Rattle.flow_links.specs.Ends.{IsEnd}
+use Rattle.flow_links.specs.inner.Ends.{IsEnd}
 use Rattle.flow_term.proofs.Outcomes.{both_ok, if_ok}
 use Rattle.flow_links.proofs.SetLemmas.{Gains-all, sorted_alike}
 use Rattle.flow_links.proofs.nodes.node_list.Goals as goal

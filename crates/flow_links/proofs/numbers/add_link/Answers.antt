@@ -1,5 +1,5 @@
 use Rattle.std.proofs.Common.{ℕ, List, [], ◌∷◌, ◌++◌, sym, subst}
-use Rattle.flow_links.specs.Numbers.{IsGraphOf}
+use Rattle.flow_links.specs.inner.Numbers.{IsGraphOf}
 use Rattle.flow_links.proofs.NumberLemmas.{added_arrow, added_point, kept_number}
 use Rattle.flow_term.proofs.Outcomes.{on_ok}
 use Rattle.flow_links.proofs.numbers.add_link.Goals as goal

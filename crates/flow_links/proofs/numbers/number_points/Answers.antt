@@ -2,7 +2,7 @@ use Rattle.std.proofs.Common.{◌≡◌, ℕ, ◌+◌, List, [], ◌∷◌, ◌+
 use Rattle.std.proofs.lemmas.List.{take_more}
 use Rattle.flow_term.specs.declared.graph.Link.{Link}
 use Rattle.flow_term.specs.declared.graph.Point.{Point}
-use Rattle.flow_links.specs.Numbers.{IsGraphOf}
+use Rattle.flow_links.specs.inner.Numbers.{IsGraphOf}
 use Rattle.flow_links.proofs.NumberLemmas.{no_links}
 use Rattle.flow_links.proofs.numbers.number_points.Goals as goal
 

@@ -2,7 +2,7 @@ use Rattle.std.proofs.Common.{◌≡◌, ◌==◌, ℕ, ◌+◌, List, [], ◌�
 use Rattle.std.specs.Prelude.{Contains}
 use Rattle.std.proofs.lemmas.List.{take_more}
 use Rattle.indexmap.specs.IndexSet.{insert_key}
-use Rattle.flow_links.specs.Gains.{Gains}
+use Rattle.flow_links.specs.inner.Gains.{Gains}
 use Rattle.flow_links.proofs.ReachLemmas.{gains_insert, gains_more, longer_insert, longer_still}
 use Rattle.flow_links.proofs.reach.add_all.Goals as goal
 

@@ -1,6 +1,6 @@
 use Rattle.std.proofs.Common.{◌≡◌, ℕ, List, ◌++◌, take}
 use Rattle.std.specs.Prelude.{Contains}
-use Rattle.flow_links.specs.Gains.{Gains}
+use Rattle.flow_links.specs.inner.Gains.{Gains}
 use Rattle.flow_links.proofs.reach.add_all.Given as goal
 
 abbrev pub invariant-loop-number : goal.invariant-loop-number

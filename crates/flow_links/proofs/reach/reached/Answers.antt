@@ -2,7 +2,7 @@ use Rattle.std.proofs.Common.{◌≡◌, ◌<◌, ◌≤◌, ℕ, List, Some, le
 use Rattle.std.specs.Prelude.{Contains, slice_get}
 use Rattle.std.proofs.lemmas.List.Elements.{Contains-get_or}
 use Rattle.std.proofs.lemmas.Option.{slice_get-get_or}
-use Rattle.flow_links.specs.Gains.{Gains}
+use Rattle.flow_links.specs.inner.Gains.{Gains}
 use Rattle.flow_links.proofs.ReachLemmas.{search_begins, search_ends, search_goes_on, few_found, found_within}
 use Rattle.flow_links.proofs.reach.reached.Goals as goal
 

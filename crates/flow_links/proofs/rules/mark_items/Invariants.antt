@@ -1,7 +1,7 @@
 use Rattle.std.proofs.Common.{take}
 use Rattle.std.specs.List.{list_any}
 use Rattle.flow_syntax.specs.Control.{enters_argument}
-use Rattle.flow_links.specs.Marks.{Marks}
+use Rattle.flow_links.specs.inner.Marks.{Marks}
 use Rattle.flow_links.proofs.rules.mark_items.Given as goal
 
 abbrev pub invariant-loop-item : goal.invariant-loop-item

@@ -1,10 +1,10 @@
 use Rattle.std.proofs.Common.{sym, ap, subst, ◌∙◌}
 use Rattle.flow_parse.proofs.FaultLaws.{read_only, read_first, told_only, told_fault, told_first}
 use Rattle.flow_parse.proofs.parser.parse.Goals as goal
-use Rattle.parsed_specs.proofs.WholeTexts.{texts_well_formed}
+use Rattle.spec_wellformed.proofs.WholeTexts.{texts_well_formed}
 use Rattle.spec_grammar.proofs.Wholes.{all_found}
 use Rattle.spec_grammar.specs.Reading.{reads_all}
-use Rattle.token_scan.specs.Gives.{Fails}
+use Rattle.spec_grammar.specs.Gives.{Fails}
 
 pub returns-in-Ok-clause-found : goal.returns-in-Ok-clause-found
 returns-in-Ok-clause-found c = all_found c.args.tokens.now c.in-Ok.spec (ap reads_all (sym c.as_slice-2.ensures) ∙ c.in-Ok.ensures)

@@ -1,5 +1,5 @@
 use Rattle.std.proofs.Common.{map, sym, ◌∙◌}
-use Rattle.expr_types.proofs.Laws.{faultless_have_types}
+use Rattle.expr_typing.proofs.Laws.{faultless_have_types}
 use Rattle.flow_syntax.specs.Types.{typing_of}
 use Rattle.flow_sorts.proofs.Wholes.{found_first, none_found, first_alone}
 use Rattle.flow_sorts.proofs.check.check_sorts.Goals as goal

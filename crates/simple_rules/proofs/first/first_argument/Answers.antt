@@ -1,5 +1,5 @@
 use Rattle.std.proofs.Common.{subst}
-use Rattle.simple_rules.specs.Least.{IsAtDeepPattern, IsLeast, SomeHas}
+use Rattle.simple_rules.specs.inner.Least.{IsAtDeepPattern, IsLeast, SomeHas}
 use Rattle.simple_rules.proofs.PlaceLemmas.{least_of_arguments}
 use Rattle.simple_rules.proofs.first.first_argument.Goals as goal
 

@@ -1,4 +1,4 @@
-use Rattle.simple_rules.specs.Least.{IsAtOtherBody, IsLeast}
+use Rattle.simple_rules.specs.inner.Least.{IsAtOtherBody, IsLeast}
 use Rattle.simple_rules.proofs.LeastLemmas.{FirstHave}
 use Rattle.simple_rules.proofs.first.first_body.Given as goal
 

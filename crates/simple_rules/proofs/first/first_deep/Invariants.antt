@@ -1,4 +1,4 @@
-use Rattle.simple_rules.specs.Least.{IsAtDeepPattern, IsLeast}
+use Rattle.simple_rules.specs.inner.Least.{IsAtDeepPattern, IsLeast}
 use Rattle.simple_rules.proofs.LeastLemmas.{FirstHave}
 use Rattle.simple_rules.proofs.first.first_deep.Given as goal
 

@@ -1,4 +1,4 @@
-use Rattle.simple_rules.specs.Least.{IsAtFunction, IsLeast}
+use Rattle.simple_rules.specs.inner.Least.{IsAtFunction, IsLeast}
 use Rattle.simple_rules.proofs.LeastLemmas.{FirstHave}
 use Rattle.simple_rules.proofs.first.first_function.Given as goal
 

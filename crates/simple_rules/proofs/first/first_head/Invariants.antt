@@ -1,4 +1,4 @@
-use Rattle.simple_rules.specs.Least.{IsAtDeepArgument, IsLeast}
+use Rattle.simple_rules.specs.inner.Least.{IsAtDeepArgument, IsLeast}
 use Rattle.simple_rules.proofs.LeastLemmas.{FirstHave}
 use Rattle.simple_rules.proofs.first.first_head.Given as goal
 

@@ -1,4 +1,4 @@
-use Rattle.simple_rules.specs.Least.{IsAtLattice, IsLeast}
+use Rattle.simple_rules.specs.inner.Least.{IsAtLattice, IsLeast}
 use Rattle.simple_rules.proofs.LeastLemmas.{FirstHave}
 use Rattle.simple_rules.proofs.first.first_lattice.Given as goal
 

@@ -1,5 +1,5 @@
 use Rattle.std.proofs.Common.{ap, subst, sym, ◌∙◌}
-use Rattle.simple_rules.specs.Least.{IsAtDeepArgument, IsAtFunction, IsAtLattice, IsAtOtherBody, IsLeast, SomeHas, lesser_of}
+use Rattle.simple_rules.specs.inner.Least.{IsAtDeepArgument, IsAtFunction, IsAtLattice, IsAtOtherBody, IsLeast, SomeHas, lesser_of}
 use Rattle.simple_rules.specs.Simple.{IsNotYet}
 use Rattle.simple_rules.proofs.PlaceLemmas.{least_of_spec}
 use Rattle.simple_rules.proofs.first.first_not_yet.Goals as goal

@@ -1,5 +1,5 @@
 use Rattle.std.proofs.Common.{subst}
-use Rattle.simple_rules.specs.Least.{IsLeast}
+use Rattle.simple_rules.specs.inner.Least.{IsLeast}
 use Rattle.simple_rules.specs.Simple.{IsNotYet}
 use Rattle.simple_rules.proofs.PlaceLemmas.{accepted_refuses_none, refused_at_first, refused_is_no_ok}
 use Rattle.simple_rules.proofs.first.only_simple.Goals as goal

@@ -2,7 +2,7 @@ use Rattle.std.proofs.Common.{◌≡◌, true, inl, inr, sym, ap, subst, ◌∙�
 use Rattle.flow_syntax.specs.declared.expr.ExprKind.{out-ExprKind}
 use Rattle.flow_syntax.specs.declared.expr.ExprKind.TheOpen.{ExprKind-F}
 use Rattle.flow_syntax.proofs.ExprLayers.{layer_of_set2}
-use Rattle.simple_rules.specs.Forms.{HasForm}
+use Rattle.simple_rules.specs.inner.Forms.{HasForm}
 use Rattle.simple_rules.proofs.FormLemmas.{form_of_difference, form_of_joined, is_joining}
 use Rattle.simple_rules.proofs.form.+form_of.Goals as goal
 

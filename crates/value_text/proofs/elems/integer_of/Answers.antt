@@ -2,7 +2,7 @@ use Rattle.std.proofs.Common.{◌≡◌, true, refl, subst, w64}
 use Rattle.std.specs.Str.{is_utf8}
 use Rattle.std.specs.Str.Parse.{ParsesSigned}
 use Rattle.std.proofs.lemmas.Str.{is_utf8-from_IsUtf8}
-use Rattle.value_text.specs.Reading.{integer_of}
+use Rattle.value_text.specs.inner.Reading.{integer_of}
 use Rattle.value_text.proofs.Numbers.{number_found, number_none}
 use Rattle.value_text.proofs.Tokens.{not_utf8}
 use Rattle.value_text.proofs.elems.integer_of.Goals as goal

@@ -1,6 +1,6 @@
 use Rattle.std.proofs.Common.{sym, ◌∙◌, ◌<◌, length, arith}
 use Rattle.std.proofs.lemmas.Result.{err_from_is_err_and}
-use Rattle.value_text.specs.Reading.{all_listed, elem_below, listed_part, next_part}
+use Rattle.value_text.specs.inner.Reading.{all_listed, elem_below, listed_part, next_part}
 use Rattle.value_text.proofs.Turns.{listed_none, listed_read, unparted, continued_turn, continued_none, continued_end, none_along}
 use Rattle.value_text.proofs.elems.read_elems.Goals as goal
 

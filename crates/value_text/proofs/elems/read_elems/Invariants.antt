@@ -1,5 +1,5 @@
 use Rattle.std.proofs.Common.{◌≡◌, ◌≤◌, length}
-use Rattle.value_text.specs.Reading.{all_listed, continued, elem_below}
+use Rattle.value_text.specs.inner.Reading.{all_listed, continued, elem_below}
 use Rattle.value_text.proofs.elems.read_elems.Given as goal
 
 abbrev pub invariant-loop-alloc : goal.invariant-loop-alloc

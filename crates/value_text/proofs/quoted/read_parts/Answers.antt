@@ -1,6 +1,6 @@
 use Rattle.std.proofs.Common.{sym, ◌∙◌, arith}
 use Rattle.std.proofs.lemmas.Result.{err_from_is_err_and}
-use Rattle.value_text.specs.Reading.{all_until, part_of}
+use Rattle.value_text.specs.inner.Reading.{all_until, part_of}
 use Rattle.value_text.proofs.Turns.{continued_turn, continued_none, continued_end, none_along}
 use Rattle.value_text.proofs.quoted.read_parts.Goals as goal
 

@@ -1,5 +1,5 @@
 use Rattle.std.proofs.Common.{◌≡◌, ◌≤◌, length}
-use Rattle.value_text.specs.Reading.{all_until, continued, part_of}
+use Rattle.value_text.specs.inner.Reading.{all_until, continued, part_of}
 use Rattle.value_text.proofs.quoted.read_parts.Given as goal
 
 abbrev pub invariant-loop-rest : goal.invariant-loop-rest

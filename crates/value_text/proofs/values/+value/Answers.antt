@@ -1,7 +1,7 @@
 use Rattle.std.proofs.Common.{ℕ, List, sym, ◌∙◌, ◌<◌, length, arith}
 use Rattle.std.proofs.lemmas.Result.{err_from_is_err_and}
 use Rattle.flow_term.specs.declared.value.Entry.{Entry}
-use Rattle.value_text.specs.Reading.{Reading, all_listed, elem_below, entry_with, listed_part, next_part, value_below}
+use Rattle.value_text.specs.inner.Reading.{Reading, all_listed, elem_below, entry_with, listed_part, next_part, value_below}
 use Rattle.value_text.proofs.Tokens.{not_zero}
 use Rattle.value_text.proofs.Turns.{listed_none, listed_read, unparted, continued_turn, continued_none, continued_end, none_along}
 use Rattle.value_text.proofs.ValueTexts.{map_found, map_refused}

@@ -1,5 +1,5 @@
 use Rattle.std.proofs.Common.{◌≡◌, ◌+◌, ◌*◌, ◌≤◌, length}
-use Rattle.value_text.specs.Reading.{all_listed, continued, elem_below, entry_with, value_below}
+use Rattle.value_text.specs.inner.Reading.{all_listed, continued, elem_below, entry_with, value_below}
 use Rattle.value_text.proofs.values.+value.Given as goal
 
 abbrev pub decreases-read_any : goal.decreases-read_any

@@ -1,5 +1,5 @@
 use Rattle.std.proofs.Common.{arith}
-use Rattle.value_text.specs.Reading.{elem_below}
+use Rattle.value_text.specs.inner.Reading.{elem_below}
 use Rattle.value_text.proofs.Tokens.{not_zero}
 use Rattle.value_text.proofs.ValueTexts.{set_found, set_refused}
 use Rattle.value_text.proofs.values.read_set.Goals as goal

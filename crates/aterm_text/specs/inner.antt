@@ -1,0 +1,4 @@
+-- What the contracts of private functions cite.
+pub mod Answers
+pub mod Machine
+pub mod Open

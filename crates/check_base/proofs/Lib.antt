@@ -1,0 +1,6 @@
+pub mod Finding
+pub mod Firsts
+pub mod GathersLaws
+pub mod ListLaws
+pub mod TableLemmas
+mod Whole

@@ -1,0 +1,10 @@
+pub mod Arguments
+pub mod Finding
+pub mod Forms
+pub mod Listed
+pub mod OwnFaults
+pub mod Parts
+pub mod Patterns
+pub mod Occurrences
+pub mod Scoping
+pub mod Turning

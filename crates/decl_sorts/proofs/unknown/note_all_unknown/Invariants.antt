@@ -1,8 +1,0 @@
-use Rattle.std.proofs.Common.{take}
-use Rattle.earliest_fault.specs.Earliest.{Gathers}
-use Rattle.decl_sorts.specs.Noting.{AreUndeclared, knows}
-use Rattle.decl_sorts.proofs.unknown.note_all_unknown.Given as goal
-
--- the names before this one were looked at
-abbrev pub invariant-loop-name : goal.invariant-loop-name
-invariant-loop-name l = Gathers l.fn.earliest l.earliest (AreUndeclared (knows l.names l.space) (take l.name-index l.list))

@@ -1,3 +1,0 @@
-pub mod Noting
-pub mod Repeating
-pub mod Sections

@@ -1,7 +1,0 @@
-use Rattle.std.proofs.Common.{refl}
-use Rattle.std.proofs.lemmas.Result.{on_ok_weaker}
-use Rattle.expr_sorts.proofs.Places.{placed, scope_of_outer}
-use Rattle.expr_sorts.proofs.rules.check_in.Goals as goal
-
-pub returns : goal.returns
-returns c = on_ok_weaker c.note.result (placed _ _ _ _ _ (scope_of_outer _) refl) c.note.ensures

@@ -1,5 +1,0 @@
-use Rattle.parsed_specs.proofs.WholeTexts.{texts_well_formed}
-use Rattle.parsed_specs.proofs.texts_are_well_formed.Goals as goal
-
-pub returns : goal.returns
-returns c = texts_well_formed

@@ -1,7 +1,0 @@
-use Rattle.flow_syntax.specs.Matching.{pattern_layer}
-use Rattle.flow_syntax.specs.RuleFaults.{binds_itself}
-use Rattle.rule_sorts.proofs.Loops.{any_more}
-use Rattle.rule_sorts.proofs.head.direct_variables.Goals as goal
-
-pub loop-argument-preserved : goal.loop-argument-preserved
-loop-argument-preserved c = λ x. any_more (λ p. binds_itself x (pattern_layer p)) c.args.arguments.now c.loop-argument.argument-index c.argument-item.result _ _ c.loop-argument-test.true c.argument-item.is (c.loop-argument.invariant x) (c.in_ok-add_own.ensures x)

@@ -1,6 +1,0 @@
-use Rattle.earliest_fault.specs.Earliest.{Gathers, FirstHave}
-use Rattle.rule_sorts.specs.Faults.{IsFaultyChain}
-use Rattle.rule_sorts.proofs.items.check_chains.Given as goal
-
-abbrev pub invariant-loop-chain : goal.invariant-loop-chain
-invariant-loop-chain l = Gathers l.fn.earliest l.earliest (FirstHave (λ k. IsFaultyChain l.rule) l.chain-index l.chains)

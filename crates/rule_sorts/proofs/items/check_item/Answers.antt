@@ -1,6 +1,0 @@
-use Rattle.earliest_fault.proofs.GathersLaws.{Gathers-then}
-use Rattle.rule_sorts.proofs.Loops.{gathers_if}
-use Rattle.rule_sorts.proofs.items.check_item.Goals as goal
-
-pub returns : goal.returns
-returns c = Gathers-then c.check_name.ensures (gathers_if c.is_misplaced-is_misplaced.ensures c.note_if.ensures)

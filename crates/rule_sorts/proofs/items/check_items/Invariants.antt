@@ -1,7 +1,0 @@
-use Rattle.std.proofs.Common.{length}
-use Rattle.earliest_fault.specs.Earliest.{Gathers, FirstHave}
-use Rattle.rule_sorts.specs.Faults.{IsFaultyItem}
-use Rattle.rule_sorts.proofs.items.check_items.Given as goal
-
-abbrev pub invariant-loop-at : goal.invariant-loop-at
-invariant-loop-at l = Gathers l.fn.earliest l.earliest (FirstHave (IsFaultyItem l.rule (length l.items)) l.at l.items)

@@ -1,7 +1,0 @@
-use Rattle.std.proofs.Common.{◌≡◌, ◌++◌, map, take}
-use Rattle.std.specs.List.{flat_map}
-use Rattle.rule_sorts.specs.Tables.{shown}
-use Rattle.rule_sorts.proofs.mixed.push_chains.Given as goal
-
-abbrev pub invariant-loop-chain : goal.invariant-loop-chain
-invariant-loop-chain l = map shown l.out.items ≡ map shown l.fn.out.items ++ flat_map (λ chain. chain.items) (take l.chain-index l.chains)

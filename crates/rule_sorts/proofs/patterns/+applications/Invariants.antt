@@ -1,6 +1,0 @@
-use Rattle.earliest_fault.specs.Earliest.{Gathers, FirstHave}
-use Rattle.rule_sorts.specs.Faults.{IsMisappliedWithin}
-use Rattle.rule_sorts.proofs.patterns.+applications.Given as goal
-
-abbrev pub invariant-note_applications_of_each-loop-pattern : goal.invariant-note_applications_of_each-loop-pattern
-invariant-note_applications_of_each-loop-pattern l = Gathers l.fn.earliest l.earliest (FirstHave (λ k. IsMisappliedWithin l.names) l.pattern-index l.patterns)

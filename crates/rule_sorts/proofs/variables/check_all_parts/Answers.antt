@@ -1,9 +1,0 @@
-use Rattle.std.proofs.Common.{arith}
-use Rattle.earliest_fault.proofs.GathersLaws.{Gathers-all, Gathers-read}
-use Rattle.rule_sorts.proofs.variables.check_all_parts.Goals as goal
-
-pub loop-message-preserved : goal.loop-message-preserved
-loop-message-preserved c = Gathers-read c.args.messages.now c.loop-message.message-index c.message-item.result c.loop-message-test.true c.message-item.is c.loop-message.invariant c.in_ok-check_parts.ensures
-
-pub returns : goal.returns
-returns c = Gathers-all c.args.messages.now _ (omega arith) c.loop-message.invariant

@@ -1,8 +1,0 @@
-use Rattle.std.proofs.Common.{◌≡◌, ℕ, List, take}
-use Rattle.std.specs.List.{list_any, position_from}
-use Rattle.spec_names.specs.Names.{is_called}
-use Rattle.spec_names.specs.Tables.{value_in}
-use Rattle.spec_names.proofs.table.number_elements.Given as goal
-
-abbrev pub invariant-loop-number : goal.invariant-loop-number
-invariant-loop-number l = (x : List ℕ) → value_in l.table x ≡ position_from (λ d. list_any (is_called x) d.elements) 0 (take l.number l.lattices)

@@ -1,9 +1,0 @@
-use Rattle.std.proofs.Common.{ap}
-use Rattle.std.specs.List.{list_any}
-use Rattle.spec_names.specs.Names.{is_called}
-use Rattle.spec_names.proofs.TableLemmas.{position_from-next}
-use Rattle.spec_names.proofs.table.number_items.Goals as goal
-
-pub loop-number-preserved : goal.loop-number-preserved
-loop-number-preserved c = λ x. position_from-next (λ d. list_any (is_called x) d.items) c.args.enums.now c.loop-number.number c.index-enums-number.result _ _ _ c.loop-number-test.true c.index-enums-number.is
-    (c.loop-number.invariant x) (ap (list_any (is_called x)) c.as_slice.ensures) (c.in_ok-put_each.ensures x)

@@ -1,6 +1,0 @@
-use Rattle.std.proofs.Common.{take}
-use Rattle.tree_sorts.specs.Index.{IsIndexOfFirst}
-use Rattle.tree_sorts.proofs.constructors.index_names.Given as goal
-
-abbrev pub invariant-loop-number : goal.invariant-loop-number
-invariant-loop-number l = IsIndexOfFirst l.constructors (take l.number l.constructors) l.by_name
