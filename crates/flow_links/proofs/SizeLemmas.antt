@@ -1,7 +1,7 @@
 -- A child is smaller than its term, and a term has fewer children than its size.
-use Rattle.std.proofs.Common.{◌≡◌, ℕ, ◌<◌, ◌≤◌, ◌^◌, List, [], ◌∷◌, Some, length, get_or, ap, arith}
+use Rattle.std.proofs.Common.{◌≡◌, ℕ, ◌<◌, ◌≤◌, ◌^◌, List, Some, length, get_or, ap, arith}
 use Rattle.std.specs.Prelude.{sum_by}
-use Rattle.std.proofs.lemmas.List.Sums.{get_or-le-sum_by, sum_by-cons}
+use Rattle.std.proofs.lemmas.List.Sums.{get_or-le-sum_by}
 use Rattle.flow_term.specs.declared.term.Term.{Term}
 use Rattle.flow_syntax.specs.declared.rule.FlowRule.{FlowRule}
 use Rattle.flow_syntax.specs.declared.spec.Spec.{Spec}
@@ -10,13 +10,10 @@ use Rattle.flow_syntax.specs.Control.{arguments_in, rule_for, HasSmallHead}
 use Rattle.flow_syntax.proofs.Matches.{few_arguments, found_passes}
 use Rattle.flow_term.specs.Trees.{term_size, children}
 use Rattle.flow_term.proofs.Sizes.{term_size_out}
+use Rattle.flow_match.proofs.Sizes.{count_le}
 
 pub child_smaller : (t : Term) (xs : List Term) (i : ℕ) (child : Term) → xs ≡ children t → i < length xs → child ≡ get_or xs i child → term_size child < term_size t
 child_smaller t xs i child e h is = omega (arith, term_size_out t, get_or-le-sum_by term_size xs i child h, ap (sum_by term_size) e, ap term_size is)
-
-count_le : (ts : List Term) → length ts ≤ sum_by term_size ts
-count_le [] = omega arith
-count_le (t ∷ ts) = omega (arith, count_le ts, term_size_out t, sum_by-cons term_size t ts)
 
 pub few_children : (t : Term) → length (children t) < term_size t
 few_children t = omega (arith, term_size_out t, count_le (children t))

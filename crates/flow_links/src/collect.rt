@@ -9,7 +9,8 @@ ghost use Rattle.flow_links.specs.Below.{Adds, LinksBelow, LinksInChildren};
 use crate::here::add_here;
 use crate::link_set::LinkSet;
 use crate::rules::{entered_children, matching_rule};
-use flow_syntax::{Spec, TypedSpec};
+use flow_match::RuleIndex;
+use flow_syntax::TypedSpec;
 use flow_term::{Link, List, Term};
 use std::alloc::{AllocError, Global};
 
@@ -20,9 +21,19 @@ pub fn links(alloc: Global, spec: &TypedSpec, tree: &Term) -> Result<List<Link>,
     ensures exactly { IfOk result (λ links. (link : LinkValue) → Contains links link ↔ IsLink spec.now.spec tree.now link.from link.to) }
     ensures once { IfOk result EachOnce }
 {
+    let rules = RuleIndex::new(alloc, spec)?;
+    links_by(alloc, &rules, tree)
+}
+
+/// The links of a tree by these rules.
+fn links_by(alloc: Global, rules: &RuleIndex<'_>, tree: &Term) -> Result<List<Link>, AllocError>
+    requires { term_size tree.now < 2 ^ 32 }
+    ensures exactly { IfOk result (λ links. (link : LinkValue) → Contains links link ↔ IsLink rules.now.spec.now.spec tree.now link.from link.to) }
+    ensures once { IfOk result EachOnce }
+{
     let mut path = Vec::new(alloc);
     let mut out = LinkSet::new(alloc);
-    add_below(alloc, &spec.spec, false, tree, &mut path, &mut out)?;
+    add_below(alloc, rules, false, tree, &mut path, &mut out)?;
     out.into_list(alloc)
 }
 
@@ -30,20 +41,20 @@ pub fn links(alloc: Global, spec: &TypedSpec, tree: &Term) -> Result<List<Link>,
 #[cycle(collect)]
 fn add_below(
     alloc: Global,
-    spec: &Spec,
+    rules: &RuleIndex<'_>,
     entered: bool,
     term: &Term,
     path: &mut Vec<u32>,
     out: &mut LinkSet,
 ) -> Result<(), AllocError>
     requires { term_size term.now < 2 ^ 32 }
-    ensures links { OnOk result (Adds out.old out.new (LinksBelow spec.now entered term.now path.old.items)) }
+    ensures links { OnOk result (Adds out.old out.new (LinksBelow rules.now.spec.now.spec entered term.now path.old.items)) }
     ensures path { OnOk result (path.new.items ≡ path.old.items) }
 {
-    let matching = matching_rule(spec, term);
+    let matching = matching_rule(rules, term);
     add_here(alloc, matching, entered, term, path, out)?;
     let marks = entered_children(alloc, matching, entered, term)?;
-    add_children(alloc, spec, marks.as_slice(), term, path, out)
+    add_children(alloc, rules, marks.as_slice(), term, path, out)
 }
 
 /// The mark of the child with this number.
@@ -58,7 +69,7 @@ fn is_marked(marks: &[bool], n: u32) -> bool
 #[cycle(collect)]
 fn add_children(
     alloc: Global,
-    spec: &Spec,
+    rules: &RuleIndex<'_>,
     marks: &[bool],
     term: &Term,
     path: &mut Vec<u32>,
@@ -66,12 +77,12 @@ fn add_children(
 ) -> Result<(), AllocError>
     requires small { term_size term.now < 2 ^ 32 }
     requires marks { length marks.now ≡ length (children term.now) }
-    ensures links { OnOk result (Adds out.old out.new (LinksInChildren spec.now marks.now term.now path.old.items (length (children term.now)))) }
+    ensures links { OnOk result (Adds out.old out.new (LinksInChildren rules.now.spec.now.spec marks.now term.now path.old.items (length (children term.now)))) }
     ensures path { OnOk result (path.new.items ≡ path.old.items) }
 {
     let mut n: u32 = 0;
     for child in term.children() {
-        add_child(alloc, spec, is_marked(marks, n), n, child, path, out)?;
+        add_child(alloc, rules, is_marked(marks, n), n, child, path, out)?;
         n += 1;
     }
     Ok(())
@@ -81,7 +92,7 @@ fn add_children(
 #[cycle(collect)]
 fn add_child(
     alloc: Global,
-    spec: &Spec,
+    rules: &RuleIndex<'_>,
     entered: bool,
     n: u32,
     child: &Term,
@@ -89,11 +100,11 @@ fn add_child(
     out: &mut LinkSet,
 ) -> Result<(), AllocError>
     requires { term_size child.now < 2 ^ 32 }
-    ensures links { OnOk result (Adds out.old out.new (LinksBelow spec.now entered child.now (below path.old.items n))) }
+    ensures links { OnOk result (Adds out.old out.new (LinksBelow rules.now.spec.now.spec entered child.now (below path.old.items n))) }
     ensures path { OnOk result (path.new.items ≡ path.old.items) }
 {
     path.push(n)?;
-    add_below(alloc, spec, entered, child, path, out)?;
+    add_below(alloc, rules, entered, child, path, out)?;
     path.pop();
     Ok(())
 }

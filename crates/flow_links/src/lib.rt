@@ -10,7 +10,6 @@ mod edges;
 mod graph;
 mod here;
 mod link_set;
-mod matching;
 mod nodes;
 mod numbers;
 mod ordered_set;

@@ -1,28 +1,39 @@
 //! What the control rules say of a term: which one matches it, and which of its children are entered.
-ghost use Rattle.std.specs.Prelude.{◌≡◌, ◌<◌, ◌≤◌, ◌==◌, ℕ, false, find, length, IfOk, IfSome};
+ghost use Rattle.std.specs.Prelude.{◌≡◌, ◌<◌, ◌≤◌, ◌==◌, ℕ, false, length, IfOk, IfSome};
 ghost use Rattle.std.specs.List.{list_any, position_from};
 ghost use Rattle.std.specs.Option.{option_copied, option_map_or};
 ghost use Rattle.flow_term.specs.Trees.{children};
-ghost use Rattle.flow_syntax.specs.Matching.{matches, pattern_layer};
+ghost use Rattle.flow_syntax.specs.Matching.{pattern_layer};
 ghost use Rattle.flow_syntax.specs.Control.{argument, arguments_in, enters_argument, enters_child, is_variable_in, rule_for};
 ghost use Rattle.flow_links.specs.inner.Marks.{AreMarks, Marks, entered_by};
 
-use crate::matching::is_match;
-use flow_syntax::{Chain, FlowRule, Item, ItemKind, Pattern, PatternKind, Spec};
+use flow_match::{RuleIndex, RuleSource};
+use flow_syntax::{Chain, FlowRule, Item, ItemKind, Pattern, PatternKind};
 use flow_term::{Kind, Term, Text};
+use lattice_base::Steps;
 use std::alloc::{AllocError, Global};
+use std::marker::Brand;
+use std::sync::ledger::{Blank, Ledger};
 
-/// The matching rule of a term: the first whose head matches.
-pub fn matching_rule<'a>(spec: &'a Spec, term: &Term) -> Option<&'a FlowRule>
-    ensures { option_copied result ≡ rule_for spec.now term.now }
+/// The matching rule of a term: the first whose head matches. Its step is counted by a counter of its own.
+pub fn matching_rule<'a>(rules: &'a RuleIndex<'_>, term: &Term) -> Option<&'a FlowRule>
+    ensures { option_copied result ≡ rule_for rules.now.spec.now.spec term.now }
 {
-    first_match(spec.control.as_slice(), term)
+    counted_rule::<Brand>(rules, term, Blank::new(1))
 }
 
-fn first_match<'a>(rules: &'a [FlowRule], term: &Term) -> Option<&'a FlowRule>
-    ensures { option_copied result ≡ find (λ rule. matches rule.head term.now) rules.now }
+fn counted_rule<'a, C: Ledger>(
+    rules: &'a RuleIndex<'_>,
+    term: &Term,
+    blank: Blank,
+) -> Option<&'a FlowRule>
+    requires name { blank.name ≡ C.name }
+    requires parts { blank.parts ≡ C.parts }
+    requires some { 0 < C.parts }
+    ensures { option_copied result ≡ rule_for rules.now.spec.now.spec term.now }
 {
-    rules.iter().find(|rule| is_match(&rule.head, term))
+    let mut steps: Steps<C> = Steps::new(blank);
+    rules.control_rule(term, &mut steps)
 }
 
 fn is_variable(name: &Text, pattern: &Pattern) -> bool

@@ -60,8 +60,8 @@ module m control A() = entry--> exit => syntax fault at 28
 module m control messages note "t" on _ if 1<=2 and 1<2 and 1!=2 and 1==2 => 0 nodes 0;edges 0;
 module m control messages note "t" on _ if 1< =2 => syntax fault at 46
 module m control properties p: Map(name, Flat(int)) rules p(prev -> F(name n)) = [n|->flat(2)] => 0 nodes 0;edges 0;
-module m control node F(9223372036854775807) => not yet at 24
-module m control node F(000000000000000000000000000000001) => not yet at 24
+module m control node F(9223372036854775807) => 0 nodes 0;edges 0;
+module m control node F(000000000000000000000000000000001) => 0 nodes 0;edges 0;
 "#;
 
 #[test]

@@ -12,6 +12,8 @@ mod graphs;
 #[cfg(test)]
 mod lexical;
 #[cfg(test)]
+mod modes;
+#[cfg(test)]
 mod nesting;
 #[cfg(test)]
 mod paths;

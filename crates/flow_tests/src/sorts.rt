@@ -98,7 +98,7 @@ module m control properties p: MaySet(name) rules p(prev -> _) = p(prev) minus {
 module m control properties p: MaySet(name) rules p(prev -> _) = p(prev) minus ({} join p(prev)) => not yet at 65
 module m control properties p: MaySet(name) rules p(prev -> _) = {} => 0 nodes 0;edges 0;
 module m control properties p: MaySet(name) rules p(prev -> _) = p(prev) inter {} => not yet at 65
-module m control A(1) = entry -> exit => not yet at 19
+module m control A(1) = entry -> exit => 0 nodes 0;edges 0;
 module m lattices T { elements A bottom A join A } control => not yet at 18
 module m control A(_, x) = entry -> x -> exit => 0 nodes 0;edges 0;
 "#;

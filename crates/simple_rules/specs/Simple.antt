@@ -4,16 +4,11 @@ use Rattle.std.specs.List.{list_any}
 use Rattle.flow_syntax.specs.declared.expr.Expr.{Expr, out-Expr}
 use Rattle.flow_syntax.specs.declared.expr.ExprKind.TheOpen.{ExprKind-F}
 use Rattle.flow_syntax.specs.declared.expr.SetOp.TheVariants as operations
-use Rattle.flow_syntax.specs.declared.pattern.Pattern.{Pattern, out-Pattern}
-use Rattle.flow_syntax.specs.declared.pattern.PatternKind.TheOpen.{PatternKind-F}
 use Rattle.flow_syntax.specs.declared.property.PropRule.{PropRule}
-use Rattle.flow_syntax.specs.declared.rule.FlowRule.{FlowRule}
 use Rattle.flow_syntax.specs.declared.spec.Spec.{Spec}
 use Rattle.flow_syntax.specs.declared.tables.FunctionDecl.{FunctionDecl}
 use Rattle.flow_syntax.specs.declared.tables.TableDecl.{TableDecl}
-use Rattle.flow_syntax.specs.Control.{arguments_in}
 use Rattle.flow_syntax.specs.Expressions.{ExprLayer, expr_layer, preorder}
-use Rattle.flow_syntax.specs.Matching.{PatternLayer, pattern_layer}
 
 -- whether a layer of an expression is a read of a property
 abbrev pub is_read : ExprLayer → Bool
@@ -41,21 +36,12 @@ pub data IsSimple : Expr → Type 0 where
   -- it is a simple one without a fixed one
   without : (e a b : Expr) → expr_layer e ≡ ExprKind-F.Set2 operations.Minus a b → IsSimple a → IsFixed b → IsSimple e
 
--- whether a layer of a pattern is `_` or a plain variable
-abbrev pub is_plain : PatternLayer → Bool
-is_plain PatternKind-F.Wild = true
-is_plain (PatternKind-F.Var x) = true
-is_plain _ = false
-
 -- What isn't taken yet stands at a place:
 pub data IsNotYet (spec : Spec) (place : ℕ) : Type 0 where
   -- the name of a lattice
   lattice : (l : TableDecl) → Contains spec.lattices l → place ≡ l.name.place → IsNotYet spec place
   -- the name of a function
   function : (f : FunctionDecl) → Contains spec.functions f → place ≡ f.name.place → IsNotYet spec place
-  -- an argument of a control rule's head that is neither `_` nor a plain variable
-  argument : (rule : FlowRule) (p : Pattern) → Contains spec.control rule → Contains (arguments_in (pattern_layer rule.head)) p
-      → is_plain (pattern_layer p) ≡ false → place ≡ (out-Pattern p).place → IsNotYet spec place
   -- the body of a property's rule that isn't simple
   body : (rule : PropRule) → Contains spec.rules rule → ¬ IsSimple rule.body → place ≡ (out-Expr rule.body).place → IsNotYet spec place
 

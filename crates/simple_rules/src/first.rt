@@ -1,21 +1,17 @@
-//! What the analysis doesn't take yet: lattices with tables and their functions, heads that look into their arguments, and
-//! bodies other than simple ones.
+//! What the analysis doesn't take yet: lattices with tables and their functions, and bodies other than simple ones.
 ghost use Rattle.std.specs.Prelude.{◌≡◌, ◌↔◌, ℕ, Ok, Err};
-ghost use Rattle.simple_rules.specs.inner.Least.{IsAtDeepArgument, IsAtDeepPattern, IsAtFunction, IsAtLattice, IsAtOther, IsAtOtherBody, IsLeast, SomeHas, lesser_of};
+ghost use Rattle.simple_rules.specs.inner.Least.{IsAtFunction, IsAtLattice, IsAtOther, IsAtOtherBody, IsLeast, SomeHas, lesser_of};
 ghost use Rattle.simple_rules.specs.Simple.{IsFirstNotYet, IsNotYet};
 
 use crate::form::{Form, form_of};
 use crate::refusal::NotYet;
-use flow_syntax::{
-    Expr, FlowRule, FunctionDecl, Pattern, PatternKind, PropRule, Spec, TableDecl, TypedSpec,
-};
+use flow_syntax::{Expr, FunctionDecl, PropRule, Spec, TableDecl, TypedSpec};
 
 /// Whether the analysis takes the specification. It takes no memory.
 ///
-/// `NotYet` comes exactly where one of these stands, with the least place of one: the name of a lattice or of a function; an
-/// argument of a control rule's head that is neither `_` nor a plain variable; the body of a property's rule that isn't
-/// simple. A body is simple where it holds no read, is a read, is `a join b` or `a union b` of simple ones, or is `a minus b`
-/// with a simple `a` and a `b` that holds no read.
+/// `NotYet` comes exactly where one of these stands, with the least place of one: the name of a lattice or of a function; the
+/// body of a property's rule that isn't simple. A body is simple where it holds no read, is a read, is `a join b` or
+/// `a union b` of simple ones, or is `a minus b` with a simple `a` and a `b` that holds no read.
 ///
 /// It takes time in proportion to the size of the specification: a body is walked once.
 pub fn only_simple(spec: &TypedSpec) -> Result<(), NotYet>
@@ -36,11 +32,7 @@ pub fn first_not_yet(spec: &Spec) -> Option<u64>
         first_lattice(spec.lattices.as_slice()),
         first_function(spec.functions.as_slice()),
     );
-    let ruled = lesser(
-        first_head(spec.control.as_slice()),
-        first_body(spec.rules.as_slice()),
-    );
-    lesser(declared, ruled)
+    lesser(declared, first_body(spec.rules.as_slice()))
 }
 
 /// The lesser one, or the one that is there.
@@ -74,48 +66,6 @@ fn first_function(functions: &[FunctionDecl]) -> Option<u64>
         first = lesser(first, Some(function.name.place));
     }
     first
-}
-
-#[tactic(auto, using(crate::proofs::LeastLemmas::least_start, crate::proofs::LeastLemmas::least_next, crate::proofs::LeastLemmas::least_all))]
-fn first_head(rules: &[FlowRule]) -> Option<u64>
-    ensures { IsLeast (SomeHas IsAtDeepArgument rules.now) result }
-{
-    let mut first = None;
-    for rule in rules {
-        first = lesser(first, first_argument(rule));
-    }
-    first
-}
-
-/// The least place of an argument of the rule's head that is neither `_` nor a plain variable.
-fn first_argument(rule: &FlowRule) -> Option<u64>
-    ensures { IsLeast (IsAtDeepArgument rule.now) result }
-{
-    match &rule.head.kind {
-        PatternKind::Apply(_, parts) => first_deep(parts.as_slice()),
-        _ => None,
-    }
-}
-
-#[tactic(auto, using(crate::proofs::LeastLemmas::least_start, crate::proofs::LeastLemmas::least_next, crate::proofs::LeastLemmas::least_all))]
-fn first_deep(patterns: &[Pattern]) -> Option<u64>
-    ensures { IsLeast (SomeHas IsAtDeepPattern patterns.now) result }
-{
-    let mut first = None;
-    for pattern in patterns {
-        first = lesser(first, deep_place(pattern));
-    }
-    first
-}
-
-/// The place of a pattern that is neither `_` nor a plain variable.
-fn deep_place(pattern: &Pattern) -> Option<u64>
-    ensures { IsLeast (IsAtDeepPattern pattern.now) result }
-{
-    match &pattern.kind {
-        PatternKind::Wild | PatternKind::Var(_) => None,
-        _ => Some(pattern.place),
-    }
 }
 
 #[tactic(auto, using(crate::proofs::LeastLemmas::least_start, crate::proofs::LeastLemmas::least_next, crate::proofs::LeastLemmas::least_all))]

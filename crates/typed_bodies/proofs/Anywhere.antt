@@ -18,9 +18,9 @@ use Rattle.flow_syntax.specs.Occurrences.{Occurrence, parts_of}
 use Rattle.flow_syntax.specs.ExprTypes.{wholes_of}
 use Rattle.flow_syntax.specs.Scopes.{Variable as Scoped}
 use Rattle.flow_syntax.specs.Types.{Typing}
-use Rattle.flow_syntax.proofs.Listed.{in_at, in_any, Contains_here, Contains_behind}
+use Rattle.flow_syntax.proofs.Listed.{at_in, in_at, in_any, Contains_here, Contains_behind}
 use Rattle.expr_typing.specs.Listing.{AreOccurrences, nowhere, there}
-use Rattle.expr_typing.proofs.Clean.{all_append}
+use Rattle.expr_typing.proofs.Clean.{all_append, at_each}
 use Rattle.expr_typing.proofs.Laws.{IsGood, typed_inside, good_wholes}
 use Rattle.expr_typing.proofs.Order.{exprs, types_in_order}
 use Rattle.expr_typing.proofs.Shown.{HasSort}
@@ -35,7 +35,7 @@ use Rattle.expr_meaning.proofs.Laws.{meanings_in_range, modes_right, no_others_m
 use Rattle.flow_syntax.proofs.Parts.{given_layer, by_parts_out}
 use Rattle.typed_bodies.specs.Accepted.{IsTypedBy}
 use Rattle.typed_bodies.specs.Anywhere.{IsOccurrenceIn, whole, part, reads_in, reads_at, names_in, names_at, sort_or_int, variables_at, used_by, ExpressionsAreGood, ExpressionsMakeNoOthers, ExpressionsStand}
-use Rattle.typed_bodies.proofs.Bodies.{at_get, in_map, can_read_there, HoldsWithin, within, whole_ranged}
+use Rattle.typed_bodies.proofs.Bodies.{in_map, can_read_there, HoldsWithin, within, whole_ranged}
 use Rattle.typed_bodies.proofs.Forms.{usable}
 use Rattle.expr_meaning.proofs.TypedParts.{split_all, all_from}
 use Rattle.typed_bodies.proofs.Good.{agree, tables}
@@ -157,14 +157,12 @@ module _ (spec : Spec) where
 
     good_at : (has : ℕ → Side → Bool) (q : Occurrence) → IsOccurrenceIn spec q → IsGood spec q × HoldsWithin spec (HasRange spec range has) q
     good_at has _ (whole q among) =
-        let k = in_at (wholes_of spec) q among in
-        (at_get (IsGood spec) (wholes_of spec) k.0 q k.1 (good_wholes spec typed.faultless), whole_ranged spec types range typed.faultless typed.are (agree spec types typed) has q among)
+        (at_each (IsGood spec) (wholes_of spec) q (good_wholes spec typed.faultless) among, whole_ranged spec types range typed.faultless typed.are (agree spec types typed) has q among)
     good_at has _ (part p q place among) =
         let outer = good_at has p place in
-        let k = in_at (parts_of spec p) q among in
         let listed = list_all spec (parts_of spec p) (each_listed spec (exprs (parts_of spec p))) in (
-          at_get (IsGood spec) (parts_of spec p) k.0 q k.1 (typed_inside spec p listed.0 outer.0 listed.1),
-          at_get (HoldsWithin spec (HasRange spec range has)) (parts_of spec p) k.0 q k.1 (inner_within (HasRange spec range has) p outer.1.occurrences outer.1.are outer.1.hold),
+          at_each (IsGood spec) (parts_of spec p) q (typed_inside spec p listed.0 outer.0 listed.1) among,
+          at_each (HoldsWithin spec (HasRange spec range has)) (parts_of spec p) q (inner_within (HasRange spec range has) p outer.1.occurrences outer.1.are outer.1.hold) among,
         )
 
     typed_here : (q : Occurrence) → IsOccurrenceIn spec q → AreTyped spec (used_by spec q.expr) range (held (variables_at q.scope) q.expr ∷ [])
@@ -192,7 +190,7 @@ expressions_stand spec types typed e among =
     let placed = all_placed spec (wholes_of spec) order.occurrences order.all (all_from (IsOccurrenceIn spec) (wholes_of spec) (λ q in_wholes. whole q in_wholes)) in
     let k = in_at (exprs order.occurrences) e (subst (λ (es : List Expr). Contains es e) (sym order.stand) among) in
     let q = of_map order.occurrences k.0 e k.1 in
-    (q.0, at_get (IsOccurrenceIn spec) order.occurrences k.0 q.0 q.1 placed, q.2)
+    (q.0, at_each (IsOccurrenceIn spec) order.occurrences q.0 placed (at_in order.occurrences k.0 q.0 q.1), q.2)
   where
     of_map : (qs : List Occurrence) (k : ℕ) (e : Expr) → slice_get (exprs qs) k ≡ Some e → (q : Occurrence) × (slice_get qs k ≡ Some q) × (q.expr ≡ e)
     of_map qs k e h = by (slice_get qs k) refl (sym (slice_get-map (λ (q : Occurrence). q.expr) qs k) ∙ h)

@@ -26,7 +26,7 @@ use Rattle.flow_syntax.specs.Expected.{known}
 use Rattle.flow_syntax.specs.Types.{Typing, truth}
 use Rattle.flow_syntax.proofs.Listed.{at_in, in_at, Contains_here}
 use Rattle.expr_typing.specs.Listing.{AreOccurrences, nowhere, there}
-use Rattle.expr_typing.proofs.Clean.{all_append}
+use Rattle.expr_typing.proofs.Clean.{all_append, at_each}
 use Rattle.expr_typing.proofs.Laws.{IsGood, good_body, good_condition}
 use Rattle.expr_typing.proofs.Order.{types_in_order}
 use Rattle.expr_meaning.specs.Ranges.{Range, truths, range_of}
@@ -39,18 +39,10 @@ use Rattle.expr_meaning.proofs.TypedParts.{split_all}
 use Rattle.typed_bodies.proofs.Names.{in_scope, element_listed, property_at}
 use Rattle.typed_bodies.proofs.Occurrences.{Stands, HasRange, ranged_of, heads, all_typed}
 
-pub at_get : {X : Type 0} (P : X → Type 0) (xs : List X) (k : ℕ) (x : X) → slice_get xs k ≡ Some x → AllByRecursion P xs → P x
-at_get P [] k x e h = absurd (no e)
-  where
-    no : slice_get [] k ≡ Some x → ⊥
-    no i = cc
-at_get P (y ∷ xs) zero x e h = let same : y ≡ x = cc in subst P same h.0
-at_get P (y ∷ xs) (suc k) x e h = at_get P xs k x e h.1
-
 pub in_map : {X Y : Type 0} (f : X → Y) (xs : List X) (x : X) → Contains xs x → Contains (map f xs) (f x)
 in_map f xs x c = let k = in_at xs x c in at_in (map f xs) k.0 (f x) (slice_get-map f xs k.0 ∙ ap (option_map f) k.1)
 
-in_flat : {X Y : Type 0} (f : X → List Y) (xs : List X) (k : ℕ) (x : X) (y : Y) → slice_get xs k ≡ Some x → Contains (f x) y → Contains (flat_map f xs) y
+pub in_flat : {X Y : Type 0} (f : X → List Y) (xs : List X) (k : ℕ) (x : X) (y : Y) → slice_get xs k ≡ Some x → Contains (f x) y → Contains (flat_map f xs) y
 in_flat f [] k x y e h = absurd (no e)
   where
     no : slice_get [] k ≡ Some x → ⊥
@@ -92,8 +84,7 @@ module _ (spec : Spec) where
     whole_ranged has q among =
         let order = (types_in_order spec types).0 are in
         let ranged = ranged_occurrences range has order.occurrences types order.have (subst (λ (es : List Expr). AllZip (λ e t. range e ≡ range_of spec.lattices t) es types) (sym order.stand) agree) in
-        let k = in_at (wholes_of spec) q among in
-        at_get (HoldsWithin (HasRange spec range has)) (wholes_of spec) k.0 q k.1 (within (HasRange spec range has) (wholes_of spec) order.occurrences order.all ranged)
+        at_each (HoldsWithin (HasRange spec range has)) (wholes_of spec) q (within (HasRange spec range has) (wholes_of spec) order.occurrences order.all ranged) among
 
     -- a whole expression has the range of the type that is expected of it
     whole_range : (q : Occurrence) → Contains (wholes_of spec) q → IsGood spec q → (t : Typing) → q.expected ≡ known t → range q.expr ≡ range_of spec.lattices t

@@ -9,7 +9,7 @@ use Rattle.flow_syntax.specs.Expressions.{expr_layer, parts_of as exprs_of, preo
 use Rattle.flow_syntax.specs.Occurrences.{Occurrence, parts_of}
 use Rattle.flow_syntax.specs.ExprTypes.{wholes_of}
 use Rattle.flow_syntax.specs.Types.{Typing}
-use Rattle.flow_syntax.proofs.Listed.{Contains_here, Contains_behind}
+use Rattle.flow_syntax.proofs.Listed.{in_at, Contains_here, Contains_behind}
 use Rattle.flow_syntax.proofs.Parts.{by_induction}
 use Rattle.flow_syntax.proofs.Preorders.{preorder_out}
 use Rattle.expr_typing.specs.Listing.{AreOccurrences, nowhere, there}
@@ -17,7 +17,7 @@ use Rattle.expr_typing.proofs.Order.{exprs_parts, types_in_order}
 use Rattle.expr_meaning.specs.Making.{HasParts}
 use Rattle.typed_bodies.specs.Accepted.{IsTypedBy}
 use Rattle.typed_bodies.specs.Anywhere.{IsOccurrenceIn, whole, part}
-use Rattle.typed_bodies.proofs.Bodies.{in_map}
+use Rattle.typed_bodies.proofs.Bodies.{in_map, in_flat}
 
 -- LISTS THAT HAVE THE PARTS OF EACH
 
@@ -34,11 +34,10 @@ parts_flat : {X : Type 0} (f : X → List Expr) → ((x : X) → HasParts (f x))
 parts_flat f each [] = nothing_has_parts
 parts_flat f each (x ∷ xs) = parts_append (f x) (flat_map f xs) (each x) (parts_flat f each xs)
 
-in_flat : (es : List Expr) (e : Expr) → Contains es e → Contains (flat_map preorder es) e
-in_flat [] e (k, l, i) = absurd (omega (arith, l))
-in_flat (x ∷ xs) e (zero, l, i) =
-    Contains-append_left (preorder x) (flat_map preorder xs) e (subst (λ (zs : List Expr). Contains zs e) (sym (preorder_out x)) (subst (λ (y : Expr). Contains (x ∷ flat_map preorder (exprs_of x)) y) i (Contains_here x (flat_map preorder (exprs_of x)))))
-in_flat (x ∷ xs) e (suc k, l, i) = Contains-append_right (preorder x) (flat_map preorder xs) e (in_flat xs e (k, omega arith, i))
+part_flat : (es : List Expr) (e : Expr) → Contains es e → Contains (flat_map preorder es) e
+part_flat es e among =
+    let k = in_at es e among in
+    in_flat preorder es k.0 e e k.1 (subst (λ (zs : List Expr). Contains zs e) (sym (preorder_out e)) (Contains_here e (flat_map preorder (exprs_of e))))
 
 each_flat : (es : List Expr) → AllByRecursion (λ e. HasParts (preorder e)) es → HasParts (flat_map preorder es)
 each_flat [] h = nothing_has_parts
@@ -48,7 +47,7 @@ preorder_step : (e : Expr) → AllByRecursion (λ e. HasParts (preorder e)) (exp
 preorder_step e parts = subst HasParts (sym (preorder_out e)) by
   where
     by : HasParts (e ∷ flat_map preorder (exprs_of e))
-    by x p (zero, l, i) inside = Contains_behind e (flat_map preorder (exprs_of e)) p (in_flat (exprs_of e) p (subst (λ (y : Expr). Contains (exprs_of y) p) (sym i) inside))
+    by x p (zero, l, i) inside = Contains_behind e (flat_map preorder (exprs_of e)) p (part_flat (exprs_of e) p (subst (λ (y : Expr). Contains (exprs_of y) p) (sym i) inside))
     by x p (suc k, l, i) inside = Contains_behind e (flat_map preorder (exprs_of e)) p (each_flat (exprs_of e) parts x p (k, omega arith, i) inside)
 
 preorder_parts : (e : Expr) → HasParts (preorder e)

@@ -1,14 +1,10 @@
 -- The least of some numbers, and the places of what isn't taken yet.
-use Rattle.std.specs.Prelude.{◌≡◌, ℕ, ◌≤◌, min, false, List, Option, Some, None, Contains}
+use Rattle.std.specs.Prelude.{◌≡◌, ℕ, ◌≤◌, min, List, Option, Some, None, Contains}
 use Rattle.flow_syntax.specs.declared.expr.Expr.{Expr, out-Expr}
-use Rattle.flow_syntax.specs.declared.pattern.Pattern.{Pattern, out-Pattern}
 use Rattle.flow_syntax.specs.declared.property.PropRule.{PropRule}
-use Rattle.flow_syntax.specs.declared.rule.FlowRule.{FlowRule}
 use Rattle.flow_syntax.specs.declared.tables.FunctionDecl.{FunctionDecl}
 use Rattle.flow_syntax.specs.declared.tables.TableDecl.{TableDecl}
-use Rattle.flow_syntax.specs.Control.{arguments_in}
-use Rattle.flow_syntax.specs.Matching.{pattern_layer}
-use Rattle.simple_rules.specs.Simple.{IsSimple, is_plain}
+use Rattle.simple_rules.specs.Simple.{IsSimple}
 
 -- A number is the least of these, or there are none.
 abbrev pub IsLeast : (ℕ → Type 0) → Option ℕ → Type 0
@@ -34,14 +30,6 @@ IsAtLattice l place = place ≡ l.name.place
 -- The name of a function stands at the place.
 abbrev pub IsAtFunction : FunctionDecl → ℕ → Type 0
 IsAtFunction f place = place ≡ f.name.place
-
--- A pattern that is neither `_` nor a plain variable stands at the place.
-abbrev pub IsAtDeepPattern : Pattern → ℕ → Type 0
-IsAtDeepPattern p place = (is_plain (pattern_layer p) ≡ false) × (place ≡ (out-Pattern p).place)
-
--- An argument of a rule's head that is such a pattern stands at the place.
-abbrev pub IsAtDeepArgument : FlowRule → ℕ → Type 0
-IsAtDeepArgument rule place = SomeHas IsAtDeepPattern (arguments_in (pattern_layer rule.head)) place
 
 -- An expression isn't simple, and stands at the place.
 abbrev pub IsAtOther : Expr → ℕ → Type 0

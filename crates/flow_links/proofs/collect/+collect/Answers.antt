@@ -16,11 +16,11 @@ add_below-returns-clause-links t c = on_ok c.add_children.result c.add_children.
     Adds-same (Adds-then
     (subst (λ (p : List ℕ). Adds c.args.out.now c.add_here.new.out (LinksAt (option_copied c.matching_rule-matching.result) c.args.entered c.args.term.now p)) c.deref.ensures.value c.in_ok-add_here.ensures)
     inside)
-    (below_next c.args.spec.now c.args.entered c.args.term.now c.args.path.now.items (option_copied c.matching_rule-matching.result) c.in_ok-marks.marks.items c.as_slice.result.now
+    (below_next c.args.rules.now.spec.now.spec c.args.entered c.args.term.now c.args.path.now.items (option_copied c.matching_rule-matching.result) c.in_ok-marks.marks.items c.as_slice.result.now
     c.matching_rule-matching.ensures c.as_slice.ensures.value c.in_ok-marks.ensures))
 
 pub add_below-add_here-requires-clause-head : goal.add_below-add_here-requires-clause-head
-add_below-add_here-requires-clause-head t c = λ rule is. small_head c.args.spec.now c.args.term.now c.requires rule (sym c.matching_rule-matching.ensures ∙ is)
+add_below-add_here-requires-clause-head t c = λ rule is. small_head c.args.rules.now.spec.now.spec c.args.term.now c.requires rule (sym c.matching_rule-matching.ensures ∙ is)
 
 pub add_children-add_child-requires : goal.add_children-add_child-requires
 add_children-add_child-requires t c =
@@ -36,7 +36,7 @@ add_children-loop-child-preserved t c = record {
   counted = omega arith;
   same = c.in_ok-add_child.ensures.path ∙ c.loop-child.invariant.same;
   added = Adds-same (Adds-then c.loop-child.invariant.added c.in_ok-add_child.ensures.links)
-      (children_next c.args.spec.now c.args.marks.now c.args.term.now c.args.path.now.items c.loop-child.path.items c.loop-child.child-index c.loop-child.n c.is_marked.result c.child-item.result
+      (children_next c.args.rules.now.spec.now.spec c.args.marks.now c.args.term.now c.args.path.now.items c.loop-child.path.items c.loop-child.child-index c.loop-child.n c.is_marked.result c.child-item.result
       c.loop-child.invariant.counted c.is_marked.ensures c.loop-child.invariant.same
       (subst (λ (xs : List Term). slice_get xs c.loop-child.child-index ≡ Some c.child-item.result) c.children-child-items.ensures
       (slice_get_read c.children-child-items.result.now (length c.children-child-items.result.now) c.loop-child.child-index c.child-item.result refl c.loop-child-test.true c.child-item.is)));

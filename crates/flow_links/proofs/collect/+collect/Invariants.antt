@@ -16,5 +16,5 @@ abbrev pub invariant-add_children-loop-child : goal.invariant-add_children-loop-
 invariant-add_children-loop-child l = record {
   counted : l.n ≡ l.child-index;
   same : l.path.items ≡ l.fn.path.items;
-  added : Adds l.fn.out l.out (LinksInChildren l.spec l.marks l.term l.fn.path.items l.child-index);
+  added : Adds l.fn.out l.out (LinksInChildren l.rules.spec.now.spec l.marks l.term l.fn.path.items l.child-index);
 }

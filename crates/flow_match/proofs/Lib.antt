@@ -1,0 +1,10 @@
+pub mod Among
+pub mod Bindings
+pub mod FirstHits
+pub mod Found
+pub mod Layers
+pub mod Names
+pub mod Onto
+pub mod Roots
+pub mod Sizes
+pub mod Sorts
