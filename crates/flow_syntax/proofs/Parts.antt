@@ -27,6 +27,13 @@ map_twice f g h k _ = refl
 abbrev pub given_layer : {M : Type 0} → (Expr → M) → ExprLayer → PartLayer M
 given_layer {M} f layer = map-ExprKind ExprKind Expr ExprKind (Part M) (λ k. k) (λ e. part e (f e)) layer
 
+-- the parts of such a layer, with what is given of them
+pub given_parts : {M : Type 0} (f : Expr → M) (layer : ExprLayer) → parts_in (given_layer f layer) ≡ map (λ e. part e (f e)) (parts_in layer)
+given_parts f (ExprKind-F.Choose e x s None) = refl
+given_parts f (ExprKind-F.Choose e x s (Some c)) = refl
+given_parts f (ExprKind-F.MapOf ks vs) = sym (map-append (λ e. part e (f e)) ks vs)
+given_parts f _ = refl
+
 module _ {M : Type 0} (step : Step M) where
   abbrev walk : Expr → Part M
   walk = fold-Expr (KindPart M) (Part M) kind_step (whole_step step)

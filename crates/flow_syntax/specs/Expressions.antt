@@ -1,11 +1,12 @@
 -- The expressions of a specification: its rules' bodies and its messages' conditions, and all their parts.
 use Rattle.std.specs.Prelude.{List, [], ◌∷◌, ◌++◌, Option, Some, None}
 use Rattle.std.specs.List.{flat_map}
-use Rattle.flow_syntax.specs.declared.expr.Expr.{Expr, Expr-F, out-Expr, roll-Expr, fold-Expr}
-use Rattle.flow_syntax.specs.declared.expr.ExprKind.{ExprKind, out-ExprKind, roll-ExprKind, map-ExprKind}
+use Rattle.flow_syntax.specs.declared.expr.Expr.{Expr, out-Expr}
+use Rattle.flow_syntax.specs.declared.expr.ExprKind.{ExprKind, out-ExprKind}
 use Rattle.flow_syntax.specs.declared.expr.ExprKind.TheOpen.{ExprKind-F}
 use Rattle.flow_syntax.specs.declared.message.Message.{Message}
 use Rattle.flow_syntax.specs.declared.spec.Spec.{Spec}
+use Rattle.flow_syntax.specs.Parts.{by_parts}
 
 -- one layer of an expression
 abbrev pub ExprLayer : Type 0
@@ -53,19 +54,9 @@ parts_in (ExprKind-F.If condition a b) = condition ∷ a ∷ b ∷ []
 abbrev pub parts_of : Expr → List Expr
 parts_of e = parts_in (expr_layer e)
 
--- a whole, and it with all its parts, an outer one before its parts
-abbrev pub WithParts : Type 0 → Type 0
-WithParts X = X × List Expr
-
-abbrev pub layer_with_parts : ExprKind-F (WithParts ExprKind) (WithParts Expr) → WithParts ExprKind
-layer_with_parts layer = (roll-ExprKind (map-ExprKind (WithParts ExprKind) (WithParts Expr) ExprKind Expr (λ k. k.0) (λ e. e.0) layer), flat_map (λ e. e.1) (parts_in layer))
-
-abbrev pub placed_with_parts : Expr-F (WithParts ExprKind) (WithParts Expr) → WithParts Expr
-placed_with_parts e = (roll-Expr (record { place = e.place; kind = e.kind.0 }), roll-Expr (record { place = e.place; kind = e.kind.0 }) ∷ e.kind.1)
-
 -- an expression and all its parts, an outer one before its parts
 abbrev pub preorder : Expr → List Expr
-preorder e = (fold-Expr (WithParts ExprKind) (WithParts Expr) layer_with_parts placed_with_parts e).1
+preorder = by_parts (λ e layer. e ∷ flat_map (λ p. p.given) (parts_in layer))
 
 -- the expression that a message has, if it has a condition
 abbrev pub expressions_of_message : Message → List Expr

@@ -32,7 +32,7 @@ use Rattle.flow_syntax.specs.Parts.{part as with_given}
 use Rattle.expr_meaning.specs.Same.{same_side}
 use Rattle.expr_meaning.specs.Typing.{Variable, Held, held, held_parts, HasForm, AreTyped, none, next}
 use Rattle.expr_meaning.proofs.Laws.{meanings_in_range, modes_right, no_others_made}
-use Rattle.flow_syntax.proofs.Parts.{given_layer, by_parts_out}
+use Rattle.flow_syntax.proofs.Parts.{given_layer, by_parts_out, given_parts}
 use Rattle.typed_bodies.specs.Accepted.{IsTypedBy}
 use Rattle.typed_bodies.specs.Anywhere.{IsOccurrenceIn, whole, part, reads_in, reads_at, names_in, names_at, sort_or_int, variables_at, used_by, ExpressionsAreGood, ExpressionsMakeNoOthers, ExpressionsStand}
 use Rattle.typed_bodies.proofs.Bodies.{in_map, can_read_there, HoldsWithin, within, whole_ranged}
@@ -45,12 +45,6 @@ use Rattle.typed_bodies.proofs.Names.{in_scope, element_listed}
 use Rattle.typed_bodies.proofs.Occurrences.{HasRange, all_typed}
 
 -- WHAT AN EXPRESSION READS
-
-given_parts : {M : Type 0} (f : Expr → M) (layer : ExprLayer) → exprs_in (given_layer f layer) ≡ map (λ e. with_given e (f e)) (exprs_in layer)
-given_parts f (ExprKind-F.Choose e x s None) = refl
-given_parts f (ExprKind-F.Choose e x s (Some c)) = refl
-given_parts f (ExprKind-F.MapOf ks vs) = sym (map-append (λ e. with_given e (f e)) ks vs)
-given_parts f _ = refl
 
 side_itself : (s : Side) → same_side s s ≡ true
 side_itself side.This = refl

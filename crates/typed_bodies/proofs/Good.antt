@@ -30,6 +30,7 @@ use Rattle.expr_meaning.proofs.Ranges.{ranges_agree}
 use Rattle.typed_bodies.specs.Accepted.{IsTypedBy, HasLawfulTables, rule_domain, CanApply, CanReport, IsGoodBody, IsGoodCondition, BodiesAreGood, ConditionsAreGood, MatchesBind}
 use Rattle.typed_bodies.proofs.Bodies.{body_typed, body_range, condition_typed, condition_range}
 use Rattle.typed_bodies.proofs.Forms.{property_right}
+use Rattle.typed_bodies.proofs.Functions.{functions_give}
 use Rattle.typed_bodies.proofs.Tables.{range_lawful}
 
 zip_length : {X Y : Type 0} (P : X → Y → Type 0) (xs : List X) (ys : List Y) → AllZip P xs ys → length xs ≡ length ys
@@ -46,7 +47,7 @@ module _ (spec : Spec) (types : List Typing) (typed : IsTypedBy spec types) wher
       ranges_agree spec types typed.distinct (sym (zip_length _ order.occurrences types order.have) ∙ sym (length-map order.occurrences (λ p. p.expr)) ∙ ap length order.stand)
 
   pub tables : HasLawfulTables spec → HasTables spec (ranges_of spec types)
-  tables lawful = record { lawful = λ e. range_lawful spec lawful.lattices (type_beside (expressions_of spec) types e); results = lawful.results; monotone = lawful.monotone }
+  tables lawful = record { lawful = λ e. range_lawful spec lawful.lattices (type_beside (expressions_of spec) types e); results = functions_give spec typed.faultless; monotone = lawful.monotone }
 
   told_body : (o : Option PropDecl) (t : Typing) → property_inferred o ≡ is t → expected_body o ≡ known t
   told_body (Some p) t e = cc

@@ -1,6 +1,7 @@
 pub mod Anywhere
 pub mod Bodies
 pub mod Forms
+pub mod Functions
 pub mod Good
 pub mod Listed
 pub mod Names

@@ -46,7 +46,7 @@ get_behind [] ys i k e = let same : i ≡ k = omega arith in ap (slice_get ys) s
 get_behind (x ∷ xs) ys zero k e = absurd (omega arith)
 get_behind (x ∷ xs) ys (suc i) k e = get_behind xs ys i k (omega arith)
 
-any_text : (x : List ℕ) (ns : List Named) → list_any (bytes_eq x) (map (λ n. n.text) ns) ≡ is_among x ns
+pub any_text : (x : List ℕ) (ns : List Named) → list_any (bytes_eq x) (map (λ n. n.text) ns) ≡ is_among x ns
 any_text x [] = refl
 any_text x (n ∷ ns) = ap (λ b. bytes_eq x n.text || b) (any_text x ns)
 

@@ -20,7 +20,7 @@ use Rattle.flow_syntax.specs.Types.{Typing}
 use Rattle.expr_meaning.specs.Ranges.{values, truths}
 use Rattle.value_domains.specs.Domains.{Domain, table_of}
 use Rattle.expr_meaning.specs.SpecRanges.{Agrees, domains_of, usable_in, variables_of, ranges_of}
-use Rattle.expr_meaning.specs.Functions.{IsMonotone, GivesElements}
+use Rattle.expr_meaning.specs.Functions.{IsMonotone}
 use Rattle.value_domains.specs.Lawful.{IsLawfulTable}
 use Rattle.expr_meaning.specs.Meaning.{Situation, Sense, meaning, property_number, bound_to}
 use Rattle.expr_meaning.specs.Modes.{mode_of}
@@ -36,7 +36,6 @@ pub record IsTypedBy (spec : Spec) (types : List Typing) : Type 0 where
 -- the declared lattices are lattices, and the declared functions are monotone
 pub record HasLawfulTables (spec : Spec) : Type 0 where
   pub lattices : (l : TableDecl) → Contains spec.lattices l → IsLawfulTable (table_of (Some l))
-  pub results : (x : List ℕ) (f : FunctionDecl) → function_named spec x ≡ Some f → GivesElements spec f
   pub monotone : (x : List ℕ) (f : FunctionDecl) → function_named spec x ≡ Some f → IsMonotone spec f
 
 -- what an expression of the specification means
