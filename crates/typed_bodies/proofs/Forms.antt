@@ -145,7 +145,7 @@ module _ (spec : Spec) (range : Expr → Range) (has : ℕ → Side → Bool) wh
   condition_right s (Some c) h = h.0.from_expected truth refl
 
   choose_right : (own : Range) (s here : Scope) → IsSorted s → (e from : Expr) (c : Option Expr) (t : Typing) → ¬ (has_shape any_set t ≡ false) → IsRangeOf (known t) not_inferable own → IsSound spec (occurrence s (expected_source (known t)) from)
-      → IsRanged (place here (expected_element (known t)) e) → IsRanged (occurrence s (expected_source (known t)) from) → AllByRecursion IsRanged (optional here expected_truth c)
+      → IsRanged (occurrence here (expected_element (known t)) e) → IsRanged (occurrence s (expected_source (known t)) from) → AllByRecursion IsRanged (optional here expected_truth c)
       → (d : Domain) × (u : Domain) × AreAlike d u × (own ≡ values d) × (range from ≡ values u) × (range e ≡ elements (sort_in d)) × IsTruth range c
   choose_right own s here sorted e from c (lattice (may k)) h r sound re rf rc =
       let t = inferred_part spec s any_may from sound sorted in let m = is_may t.0 t.2 in
@@ -155,7 +155,7 @@ module _ (spec : Spec) (range : Expr → Range) (has : ℕ → Side → Bool) wh
       (dom.must k, dom.must m.0, both_must k m.0, r.from_expected _ refl, rf.from_inferred (lattice (must m.0)) (t.1 ∙ ap is m.1), re.from_expected (element k) refl, condition_right here c rc)
   choose_right own s here sorted e from c t h r sound re rf rc = absurd (h refl)
 
-  bind_right : (own : Range) (here : Scope) (b : Expr) (t : Typing) → ¬ (has_shape any_flat t ≡ false) → IsRangeOf (known t) not_inferable own → IsRanged (place here (expected_same any_flat (known t)) b) → (k : Sort) × (own ≡ values (dom.flat k)) × (range b ≡ values (dom.flat k))
+  bind_right : (own : Range) (here : Scope) (b : Expr) (t : Typing) → ¬ (has_shape any_flat t ≡ false) → IsRangeOf (known t) not_inferable own → IsRanged (occurrence here (expected_same any_flat (known t)) b) → (k : Sort) × (own ≡ values (dom.flat k)) × (range b ≡ values (dom.flat k))
   bind_right own here b (lattice (flat k)) h r part = (k, r.from_expected _ refl, part.from_expected (lattice (flat k)) refl)
   bind_right own here b t h r part = absurd (h refl)
 
@@ -280,7 +280,7 @@ module _ (spec : Spec) (range : Expr → Range) (has : ℕ → Side → Bool) wh
       not_inferable_part (λ v. IsRangeOf v not_inferable own → AllByRecursion IsRanged (map (occurrence s (expected_element v)) es) → (d : Domain) × IsSets d × (own ≡ values d) × AllByRecursion (λ e. range e ≡ elements (sort_in d)) es) any_set (set_right own s es) w typed right r parts
   form_right s vs st li w (ExprKind-F.Choose e x from c) own r typed right names sound parts =
       let here = with_variable s x (chosen_sort w (inferred spec s from)) in
-      not_inferable_part (λ v. IsRangeOf v not_inferable own → IsSound spec (occurrence s (expected_source v) from) → IsRanged (place here (expected_element v) e) → IsRanged (occurrence s (expected_source v) from) → AllByRecursion IsRanged (optional here expected_truth c)
+      not_inferable_part (λ v. IsRangeOf v not_inferable own → IsSound spec (occurrence s (expected_source v) from) → IsRanged (occurrence here (expected_element v) e) → IsRanged (occurrence s (expected_source v) from) → AllByRecursion IsRanged (optional here expected_truth c)
       → (d : Domain) × (u : Domain) × AreAlike d u × (own ≡ values d) × (range from ≡ values u) × (range e ≡ elements (sort_in d)) × IsTruth range c) any_set
       (choose_right own s here (sorted_scope s vs st) e from c) w typed right r sound.1.0 parts.0 parts.1.0 parts.1.1
   form_right s vs st li w (ExprKind-F.MapOf ks ws) own r typed right names sound parts =
@@ -319,7 +319,7 @@ module _ (spec : Spec) (range : Expr → Range) (has : ℕ → Side → Bool) wh
       let here = with_variable s x (flat_sort (inferred spec s a)) in
       let t = inferred_part spec s any_flat a sound.0 (sorted_scope s vs st) in
       let q = is_flat t.0 t.2 in
-      let k = not_inferable_part (λ v. IsRangeOf v not_inferable own → IsRanged (place here (expected_same any_flat v) b) → (k : Sort) × (own ≡ values (dom.flat k)) × (range b ≡ values (dom.flat k))) any_flat (bind_right own here b) w typed right r parts.1.0 in
+      let k = not_inferable_part (λ v. IsRangeOf v not_inferable own → IsRanged (occurrence here (expected_same any_flat v) b) → (k : Sort) × (own ≡ values (dom.flat k)) × (range b ≡ values (dom.flat k))) any_flat (bind_right own here b) w typed right r parts.1.0 in
       (q.0, k.0, k.1, parts.0.from_inferred (lattice (flat q.0)) (t.1 ∙ ap is q.1), k.2)
   form_right s vs st li w (ExprKind-F.If c a b) own r typed right names sound parts =
       let h = not_inferable_part (λ v. IsRangeOf v not_inferable own → IsRanged (occurrence s (expected_same anything v) a) → IsRanged (occurrence s (expected_same anything v) b) → (range a ≡ own) × (range b ≡ own)) anything (branch_right own s a b) w typed right r parts.1.0 parts.1.1.0 in

@@ -64,7 +64,7 @@ element_listed spec faultless x d e =
       before = omega (arith, before);
       first = at j a is_a;
       second = at r.0 d r.1;
-      same_type_as = same;
+      like = same;
     })) refl))) in
     subst (λ (o : Option TableDecl). IsTrue (has_element (table_of o) x)) (sym first) (any_text x d.elements ∙ r.2)
 
