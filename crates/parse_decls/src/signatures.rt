@@ -78,7 +78,7 @@ fn read_argument_sorts(alloc: Global, cursor: Cursor<'_>) -> Read<'_, List<TreeS
 }
 
 /// The sort of a tree, where so many brackets are open round it.
-#[cycle(check_trees)]
+#[cycle(tree_sorts)]
 pub fn read_tree_sort(alloc: Global, cursor: Cursor<'_>, nesting: u64) -> Read<'_, TreeSort>
     requires { nesting ≤ 257 }
     ensures { Gives (λ x. (x.0, x.1.tokens.now)) result (reads nesting ATreeSort cursor.entry.tokens.now) }
@@ -114,7 +114,7 @@ pub fn read_tree_sort(alloc: Global, cursor: Cursor<'_>, nesting: u64) -> Read<'
 }
 
 /// A sort in parentheses.
-#[cycle(check_trees)]
+#[cycle(tree_sorts)]
 fn read_sort_in_round(alloc: Global, cursor: Cursor<'_>, nesting: u64) -> Read<'_, TreeSort>
     requires { nesting ≤ 256 }
     ensures { Gives (λ x. (x.0, x.1.tokens.now)) result (reads_in_round nesting ATreeSort cursor.entry.tokens.now) }
@@ -126,7 +126,7 @@ fn read_sort_in_round(alloc: Global, cursor: Cursor<'_>, nesting: u64) -> Read<'
 }
 
 /// One sort or more, with the separator between each two.
-#[cycle(check_trees)]
+#[cycle(tree_sorts)]
 fn read_tree_sorts(
     alloc: Global,
     cursor: Cursor<'_>,

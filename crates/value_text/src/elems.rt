@@ -13,7 +13,7 @@ use itoa::Buffer;
 use std::alloc::Global;
 
 /// The integer of these bytes.
-#[tactic(auto, unfolding(crate::specs::Reading::integer_of))]
+#[tactic(auto, unfolding(crate::specs::inner::Reading::integer_of))]
 fn integer_of(bytes: &[u8]) -> Result<i64, ValueRefusal>
     ensures { Gives (λ n. n) result (integer_of bytes.now) }
 {
@@ -27,7 +27,7 @@ fn integer_of(bytes: &[u8]) -> Result<i64, ValueRefusal>
 }
 
 /// The integer of which these bytes are the decimal.
-#[tactic(auto, unfolding(crate::specs::Reading::decimal_of))]
+#[tactic(auto, unfolding(crate::specs::inner::Reading::decimal_of))]
 fn decimal_of(bytes: &[u8]) -> Result<i64, ValueRefusal>
     ensures { Gives (λ n. n) result (decimal_of bytes.now) }
 {
@@ -59,7 +59,7 @@ fn token_elem(alloc: Global, token: &[u8]) -> Result<Elem, ValueRefusal>
 }
 
 /// The position, integer or item that the bytes begin with.
-#[tactic(auto, unfolding(crate::specs::Reading::plain_elem))]
+#[tactic(auto, unfolding(crate::specs::inner::Reading::plain_elem))]
 fn read_plain(alloc: Global, bytes: &[u8]) -> Reading<'_, Elem>
     ensures read { Gives (λ x. (x.0, x.1.now)) result (plain_elem bytes.now) }
     ensures shorter { IfOk result (λ x. length x.1.now < length bytes.now) }
@@ -70,7 +70,7 @@ fn read_plain(alloc: Global, bytes: &[u8]) -> Reading<'_, Elem>
 
 /// The element that the bytes begin with, with at most so many pairs of brackets round its parts.
 #[cycle(elem)]
-#[tactic(auto, unfolding(crate::specs::Reading::elem_with))]
+#[tactic(auto, unfolding(crate::specs::inner::Reading::elem_with))]
 pub fn read_elem(alloc: Global, nesting: usize, bytes: &[u8]) -> Reading<'_, Elem>
     ensures read { Gives (λ x. (x.0, x.1.now)) result (elem_with (elem_below nesting) bytes.now) }
     ensures shorter { IfOk result (λ x. length x.1.now < length bytes.now) }
@@ -103,7 +103,7 @@ pub fn read_elem_below(alloc: Global, nesting: usize, bytes: &[u8]) -> Reading<'
 
 /// A pair, behind its opening bracket.
 #[cycle(elem)]
-#[tactic(auto, unfolding(crate::specs::Reading::pair_with))]
+#[tactic(auto, unfolding(crate::specs::inner::Reading::pair_with))]
 fn read_pair(alloc: Global, nesting: usize, bytes: &[u8]) -> Reading<'_, Elem>
     ensures read { Gives (λ x. (x.0, x.1.now)) result (pair_with Pair (elem_below nesting) bytes.now) }
     ensures shorter { IfOk result (λ x. length x.1.now < length bytes.now) }

@@ -40,7 +40,7 @@ pub fn is_identifier(text: &Text) -> bool
 }
 
 /// The identifier of these bytes.
-#[tactic(auto, unfolding(crate::specs::Reading::item_of))]
+#[tactic(auto, unfolding(crate::specs::inner::Reading::item_of))]
 pub fn item_of(alloc: Global, bytes: &[u8]) -> Result<Text, ValueRefusal>
     ensures { Gives (λ text. text) result (item_of bytes.now) }
 {

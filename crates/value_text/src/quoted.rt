@@ -95,7 +95,7 @@ fn read_parts(alloc: Global, quote: u8, bytes: &[u8]) -> Reading<'_, List<u8>>
 }
 
 /// The text before a quote of this kind, and what stands behind the quote.
-#[tactic(auto, unfolding(crate::specs::Reading::quoted_of))]
+#[tactic(auto, unfolding(crate::specs::inner::Reading::quoted_of))]
 pub fn read_quoted(alloc: Global, quote: u8, bytes: &[u8]) -> Reading<'_, Text>
     ensures read { Gives (λ x. (x.0, x.1.now)) result (quoted_of quote bytes.now) }
     ensures shorter { IfOk result (λ x. length x.1.now < length bytes.now) }

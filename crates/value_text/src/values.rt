@@ -12,7 +12,7 @@ use flow_term::{Boxed, Entry, List, Value};
 use std::alloc::Global;
 
 /// An element in a flat lattice, behind its word.
-#[tactic(auto, unfolding(crate::specs::Reading::flat_with))]
+#[tactic(auto, unfolding(crate::specs::inner::Reading::flat_with))]
 fn read_flat(alloc: Global, nesting: usize, bytes: &[u8]) -> Reading<'_, Value>
     ensures read { Gives (λ x. (x.0, x.1.now)) result (flat_with (elem_below nesting) bytes.now) }
     ensures shorter { IfOk result (λ x. length x.1.now < length bytes.now) }
@@ -44,7 +44,7 @@ fn read_word<'a>(alloc: Global, nesting: usize, word: &[u8], rest: &'a [u8]) -> 
 }
 
 /// A value that begins with no bracket.
-#[tactic(auto, unfolding(crate::specs::Reading::plain_value))]
+#[tactic(auto, unfolding(crate::specs::inner::Reading::plain_value))]
 fn read_plain(alloc: Global, nesting: usize, bytes: &[u8]) -> Reading<'_, Value>
     ensures read { Gives (λ x. (x.0, x.1.now)) result (plain_value (elem_below nesting) bytes.now) }
     ensures shorter { IfOk result (λ x. length x.1.now < length bytes.now) }
@@ -54,7 +54,7 @@ fn read_plain(alloc: Global, nesting: usize, bytes: &[u8]) -> Reading<'_, Value>
 }
 
 /// A set, behind its opening bracket, where brackets may nest so deep.
-#[tactic(auto, unfolding(crate::specs::Reading::set_with))]
+#[tactic(auto, unfolding(crate::specs::inner::Reading::set_with))]
 fn read_set(alloc: Global, nesting: usize, bytes: &[u8]) -> Reading<'_, Value>
     ensures read { Gives (λ x. (x.0, x.1.now)) result (set_with nesting (elem_below nesting) bytes.now) }
     ensures shorter { IfOk result (λ x. length x.1.now < length bytes.now) }
@@ -71,7 +71,7 @@ fn read_set(alloc: Global, nesting: usize, bytes: &[u8]) -> Reading<'_, Value>
 
 /// The value that the bytes begin with, in which brackets may nest so deep.
 #[cycle(value)]
-#[tactic(auto, unfolding(crate::specs::Reading::value_with))]
+#[tactic(auto, unfolding(crate::specs::inner::Reading::value_with))]
 pub fn read_any(alloc: Global, nesting: usize, bytes: &[u8]) -> Reading<'_, Value>
     ensures read { Gives (λ x. (x.0, x.1.now)) result (value_with nesting (elem_below nesting) (value_below nesting) bytes.now) }
     ensures shorter { IfOk result (λ x. length x.1.now < length bytes.now) }
@@ -98,7 +98,7 @@ fn read_any_below(alloc: Global, nesting: usize, bytes: &[u8]) -> Reading<'_, Va
 
 /// A pair, behind its opening bracket.
 #[cycle(value)]
-#[tactic(auto, unfolding(crate::specs::Reading::pair_with))]
+#[tactic(auto, unfolding(crate::specs::inner::Reading::pair_with))]
 fn read_pair(alloc: Global, nesting: usize, bytes: &[u8]) -> Reading<'_, Value>
     ensures read { Gives (λ x. (x.0, x.1.now)) result (pair_with Pair (value_below nesting) bytes.now) }
     ensures shorter { IfOk result (λ x. length x.1.now < length bytes.now) }
@@ -113,7 +113,7 @@ fn read_pair(alloc: Global, nesting: usize, bytes: &[u8]) -> Reading<'_, Value>
 
 /// A key and its value.
 #[cycle(value)]
-#[tactic(auto, unfolding(crate::specs::Reading::entry_with))]
+#[tactic(auto, unfolding(crate::specs::inner::Reading::entry_with))]
 fn read_entry(alloc: Global, nesting: usize, bytes: &[u8]) -> Reading<'_, Entry>
     ensures read { Gives (λ x. (x.0, x.1.now)) result (entry_with (elem_below nesting) (value_below nesting) bytes.now) }
     ensures shorter { IfOk result (λ x. length x.1.now < length bytes.now) }
@@ -126,7 +126,7 @@ fn read_entry(alloc: Global, nesting: usize, bytes: &[u8]) -> Reading<'_, Entry>
 
 /// A map, behind its opening bracket, where brackets may nest so deep.
 #[cycle(value)]
-#[tactic(auto, unfolding(crate::specs::Reading::map_with))]
+#[tactic(auto, unfolding(crate::specs::inner::Reading::map_with))]
 fn read_map(alloc: Global, nesting: usize, bytes: &[u8]) -> Reading<'_, Value>
     ensures read { Gives (λ x. (x.0, x.1.now)) result (map_with nesting (elem_below nesting) (value_below nesting) bytes.now) }
     ensures shorter { IfOk result (λ x. length x.1.now < length bytes.now) }

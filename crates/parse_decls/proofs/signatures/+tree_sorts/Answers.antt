@@ -3,7 +3,7 @@ use Rattle.spec_grammar.proofs.Turns.{after_take, after_turn}
 use Rattle.spec_grammar.specs.Symbols.{ATreeSort}
 use Rattle.spec_grammar.proofs.GivesLemmas.{deep_fails}
 use Rattle.parse_decls.proofs.SortLaws.{sort_name, sort_str, sort_int, sort_any, sort_list, sort_tuple}
-use Rattle.parse_decls.proofs.signatures.+check_trees.Goals as goal
+use Rattle.parse_decls.proofs.signatures.+tree_sorts.Goals as goal
 
 pub read_tree_sort-returns-then-nesting-gt-LIMIT : goal.read_tree_sort-returns-then-nesting-gt-LIMIT
 read_tree_sort-returns-then-nesting-gt-LIMIT t c = deep_fails c.too_deep.result c.args.nesting ATreeSort c.args.cursor.tokens.now c.if-nesting-gt-LIMIT.true c.too_deep.ensures

@@ -2,7 +2,7 @@ use Rattle.std.proofs.Common.{◌≡◌, ◌+◌, ◌-◌, ◌*◌, length}
 use Rattle.spec_grammar.proofs.Turns.{more_after}
 use Rattle.spec_grammar.specs.Symbols.{ATreeSort}
 use Rattle.parse_decls.specs.inner.Pieces.{reads_sorts}
-use Rattle.parse_decls.proofs.signatures.+check_trees.Given as goal
+use Rattle.parse_decls.proofs.signatures.+tree_sorts.Given as goal
 
 abbrev pub decreases-read_sort_in_round : goal.decreases-read_sort_in_round
 decreases-read_sort_in_round l = 3 * (257 - l.nesting)
