@@ -1,26 +1,27 @@
 -- Each state but that of a number that is no i64 goes on to a text.
-use Rattle.std.proofs.Common.{◌≡◌, ℕ, ◌+◌, ◌-◌, ◌*◌, ◌<◌, ◌≤◌, Bool, true, false, List, [], ◌∷◌, ◌++◌, length, get_or, take, Option, Some, None, refl, sym, ap, ◌∙◌, subst, inl, inr, append-nil, append_assoc, length-append, arith, lit<}
-use Rattle.std.specs.Prelude.{ℤ, ◌⊎◌, ◌==◌, IsTrue, IsUtf8, nat_lt, nat_le}
-use Rattle.std.specs.Str.{IsCharBoundary}
+use Rattle.std.proofs.Common.{◌≡◌, ℕ, ◌<◌, ◌≤◌, Bool, true, false, List, [], ◌∷◌, ◌++◌, length, Option, Some, None, refl, sym, ap, ◌∙◌, subst, inl, inr, append-nil, append_assoc, length-append, arith, lit<}
+use Rattle.std.specs.Prelude.{ℤ, ◌⊎◌, ◌==◌, IsUtf8, nat_lt, nat_le}
 use Rattle.std.proofs.Math.Seq.{take-append_seam, get_or-append_seam}
 use Rattle.std.proofs.lemmas.Bool.Decides.{nat_tests}
 use Rattle.std.proofs.lemmas.Str.{IsUtf8-take}
-use Rattle.flow_term.specs.declared.term.Kind.{Kind}
 use Rattle.flow_term.specs.declared.term.Kind.TheVariants as kind
+use Rattle.quoted_text.proofs.Cuts.{with_byte, utf8_before}
+use Rattle.quoted_text.proofs.Escapes.{low_high, low_is_octal, octal_high, plain_byte}
+use Rattle.quoted_text.specs.Escapes.{is_low_octal, is_octal, octal_value, IsEscape, short, octal}
+use Rattle.quoted_text.specs.Quotes.{IsQuoted}
 use Rattle.aterm_text.specs.declared.number.Number.{Number}
 use Rattle.aterm_text.specs.declared.open.Open.{Open}
 use Rattle.aterm_text.specs.declared.reader.state.Escape.{Escape}
 use Rattle.aterm_text.specs.declared.reader.state.Last.{Last}
 use Rattle.aterm_text.specs.declared.reader.state.Last.TheVariants as last
-use Rattle.aterm_text.specs.Bytes.{class_of, is_low_octal, is_octal, octal_value}
 use Rattle.aterm_text.specs.Faults.{Begins, IsDue}
-use Rattle.aterm_text.specs.Grammar.{term, IsSymbol, IsEscape, short, octal, IsQuoted, number_of, signed, IsI64, IsTerm, IsBody}
+use Rattle.aterm_text.specs.Grammar.{IsSymbol, number_of, signed, IsI64, IsBody}
 use Rattle.aterm_text.specs.Numbers.{integer_of}
-use Rattle.aterm_text.proofs.Runs.{IntegerIs, integer_is, low_high, low_is_octal, octal_high}
-use Rattle.aterm_text.proofs.Spelled.{Behind, Quoting, Escaping, NumberAt, Spelled, Means, behind_as, behind_at, head_due}
-use Rattle.aterm_text.proofs.Lives.{with_byte, begins_less, term_lives, body_lives, due_lives, minus_lives, quoting_lives}
-use Rattle.aterm_text.proofs.Sound.{symbol_as_body, quoted_as_body, integer_body, quoting_more, plain_byte}
-use Rattle.aterm_text.proofs.Utf8.{utf8_before, IsOutside}
+use Rattle.aterm_text.proofs.Runs.{IntegerIs, integer_is}
+use Rattle.aterm_text.proofs.Spelled.{Quoting, Escaping, NumberAt, Means, behind_as, behind_at, head_due}
+use Rattle.aterm_text.proofs.Lives.{begins_less, term_lives, body_lives, due_lives, minus_lives, quoting_lives}
+use Rattle.aterm_text.proofs.Sound.{symbol_as_body, quoted_as_body, integer_body, quoting_more}
+use Rattle.aterm_text.proofs.Utf8.{IsOutside}
 
 -- ** inside quotes, also within a character
 

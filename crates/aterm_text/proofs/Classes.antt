@@ -1,7 +1,8 @@
 -- Which bytes have a class.
-use Rattle.std.proofs.Common.{◌≡◌, ℕ, ◌<◌, ◌≤◌, ◌^◌, ◌||◌, ◌&&◌, ◌==◌, List, Bool, true, false, refl, ap, ◌∙◌, subst, arith}
+use Rattle.std.proofs.Common.{◌≡◌, ℕ, ◌<◌, ◌≤◌, ◌||◌, ◌&&◌, ◌==◌, Bool, true, false, refl, ap, ◌∙◌, subst, arith}
 use Rattle.std.specs.Prelude.{if◌then◌else◌, nat_le}
 use Rattle.std.proofs.lemmas.Bool.Decides.{nat_tests}
+use Rattle.quoted_text.proofs.Escapes.{same_byte}
 use Rattle.aterm_text.specs.declared.class.ByteClass.{ByteClass}
 use Rattle.aterm_text.specs.declared.class.ByteClass.TheVariants.{Letter, Digit, Minus, Sign, Blank, Quote, Comma, Parenthesis, Bracket, Brace, Closing, Exclamation, Less, Other}
 use Rattle.aterm_text.specs.Bytes.{class_of, is_letter, is_real_mark}
@@ -41,9 +42,6 @@ blank_byte c h = grind (arith, nat_tests)
 
 closing_byte : (c : ℕ) → (c == 41 || c == 93 || c == 125) ≡ true → c < 128
 closing_byte c h = grind (arith, nat_tests)
-
-pub same_byte : (c n : ℕ) → (c == n) ≡ true → c ≡ n
-same_byte c n h = grind (arith, nat_tests)
 
 pub byte_of_class : (c : ℕ) → IsByteOf (class_of c) c
 unfolding class_of

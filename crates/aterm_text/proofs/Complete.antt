@@ -1,12 +1,13 @@
 -- What is a term text is read, where the limits, if they are kept, allow it.
-use Rattle.std.proofs.Common.{◌≡◌, ℕ, ◌+◌, ◌<◌, ◌≤◌, ◌^◌, Bool, true, false, List, [], ◌∷◌, ◌++◌, length, max, Option, Some, None, Result, Ok, Err, refl, sym, ap, ◌∙◌, subst, inl, inr, append-nil, append_assoc, arith, eq-eqb}
-use Rattle.std.specs.Prelude.{ℤ, ◌⊎◌, ◌==◌, if◌then◌else◌, sum_by, option_map}
-use Rattle.flow_term.specs.Trees.{term_size, term_depth}
+use Rattle.std.proofs.Common.{◌≡◌, ℕ, ◌+◌, ◌≤◌, ◌^◌, Bool, true, List, [], ◌∷◌, ◌++◌, length, max, Option, Some, Ok, Err, refl, sym, ap, ◌∙◌, subst, inl, inr, append-nil, append_assoc, arith, eq-eqb}
+use Rattle.std.specs.Prelude.{ℤ, if◌then◌else◌, sum_by, option_map}
+use Rattle.flow_term.specs.Trees.{term_size, term_depth, deepest}
 use Rattle.flow_term.specs.declared.term.Term.{Term}
 use Rattle.flow_term.specs.declared.term.Kind.{Kind}
 use Rattle.flow_term.specs.declared.term.Kind.TheVariants as kind
+use Rattle.quoted_text.specs.Quotes.{IsQuoted}
 use Rattle.aterm_text.specs.declared.class.ByteClass.{ByteClass}
-use Rattle.aterm_text.specs.declared.class.ByteClass.TheVariants.{Blank, Parenthesis, Bracket, Closing}
+use Rattle.aterm_text.specs.declared.class.ByteClass.TheVariants.{Parenthesis, Bracket, Closing}
 use Rattle.aterm_text.specs.declared.open.Open.{Open}
 use Rattle.aterm_text.specs.declared.open.Opener.{Opener}
 use Rattle.aterm_text.specs.declared.open.Opener.TheVariants.{Call, Tuple, Items, Annotations}
@@ -14,13 +15,13 @@ use Rattle.aterm_text.specs.declared.reader.state.Last.{Last}
 use Rattle.aterm_text.specs.declared.reader.state.Last.TheVariants as last
 use Rattle.aterm_text.specs.declared.refusal.TermFaultKind.TheVariants.{Unexpected}
 use Rattle.aterm_text.specs.Bytes.{class_of}
-use Rattle.aterm_text.specs.Grammar.{term, IsBlank, IsSymbol, IsQuoted, IsName, number_of, signed, IsNumeral, IsI64, IsTerm, bare, annotated, IsBody, symbol, application, text, tuple, items, number, AreTerms, none, some, AreItems, single, further}
-use Rattle.aterm_text.specs.inner.Machine.{State, state, Next, close, closed_as, step_by, run, ◌>>=◌}
+use Rattle.aterm_text.specs.Grammar.{term, IsBlank, IsSymbol, IsName, number_of, IsNumeral, IsI64, IsTerm, bare, annotated, IsBody, symbol, application, text, tuple, items, number, AreTerms, none, some, AreItems, single, further}
+use Rattle.aterm_text.specs.inner.Machine.{State, state, close, closed_as, step_by, run}
 use Rattle.aterm_text.specs.Numbers.{integer_of}
 use Rattle.aterm_text.specs.inner.Open.{closing_byte_of, with_item}
 use Rattle.aterm_text.proofs.Classes.{class_bracket, class_comma, class_parenthesis, class_closing_list, class_closing_call, class_closing_annotations}
-use Rattle.aterm_text.proofs.Sizes.{deepest, parts_of, size_term, depth_term, parts_apply, parts_tuple, parts_items, parts_int, parts_text, size_positive, depth_positive, sizes_cons}
-use Rattle.aterm_text.proofs.Runs.{run_on, byte_on, skip_then, CanBegin, skip_before, HasRoom, begins_with, reads_symbol, reads_quoted, ReadsNumeral, reads_numeral, IntegerIs, integer_is, HasBody, IsWhole, whole_from_body, blank_whole, ends_comma, ends_closing, opens, Named, opens_call, opens_annotations}
+use Rattle.aterm_text.proofs.Sizes.{parts_of, size_term, depth_term, parts_apply, parts_tuple, parts_items, parts_int, parts_text, sizes_cons}
+use Rattle.aterm_text.proofs.Runs.{run_on, byte_on, skip_then, CanBegin, skip_before, HasRoom, begins_with, reads_symbol, reads_quoted, ReadsNumeral, reads_numeral, IntegerIs, integer_is, HasBody, IsWhole, whole_from_body, blank_whole, ends_comma, ends_closing, opens, opens_call, opens_annotations}
 
 -- how many terms a body has with its own
 abbrev pub body_size : Kind → ℕ

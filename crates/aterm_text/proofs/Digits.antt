@@ -1,5 +1,5 @@
 -- The decimal text of a number is a numeral of it.
-use Rattle.std.proofs.Common.{◌≡◌, ℕ, zero, suc, ◌+◌, ◌-◌, ◌*◌, ◌<◌, ◌≤◌, ◌^◌, Bool, true, false, List, [], ◌∷◌, ◌++◌, length, map, refl, sym, ap, ◌∙◌, subst, arith, decimal, lit<, lit≤}
+use Rattle.std.proofs.Common.{◌≡◌, ℕ, zero, suc, ◌+◌, ◌-◌, ◌<◌, ◌≤◌, ◌^◌, true, false, List, [], ◌∷◌, map, refl, sym, ap, ◌∙◌, subst, arith, decimal, lit<, lit≤}
 use Rattle.std.specs.Prelude.{ℤ, pos, negsuc, ◌==◌, ◌||◌, ◌&&◌, IsUtf8, nat_le}
 use Rattle.std.specs.Fmt.{signed_decimal}
 use Rattle.std.specs.List.{AllByRecursion}
@@ -7,16 +7,12 @@ use Rattle.std.specs.Int.Digits.{digits_of, number_from_digits, AllBelowBase}
 use Rattle.std.proofs.lemmas.Bool.Decides.{nat_tests}
 use Rattle.std.proofs.lemmas.Fmt.{decimal_digit, decimal_nonempty, decimal-digits_of}
 use Rattle.std.proofs.lemmas.Int.Digits.{all_below_base_digits_of, number_digits_of}
-use Rattle.std.proofs.lemmas.Str.{IsUtf8-nil, IsUtf8-append, IsUtf8-from_ascii}
-use Rattle.std.proofs.lemmas.Str.Ascii.{IsAscii-nil, IsAscii-cons}
+use Rattle.std.proofs.lemmas.Str.{IsUtf8-nil}
+use Rattle.quoted_text.proofs.Cuts.{before_text}
 use Rattle.aterm_text.specs.declared.class.ByteClass.TheVariants.{Digit}
 use Rattle.aterm_text.specs.Bytes.{class_of, is_letter}
-use Rattle.aterm_text.specs.Grammar.{IsDigits, number_of, signed, sign_text, IsNumeral, IsI64}
+use Rattle.aterm_text.specs.Grammar.{IsDigits, number_of, signed, IsNumeral, IsI64}
 use Rattle.aterm_text.proofs.Classes.{digit_ascii}
-
--- a byte of ASCII before a text
-pub before_text : (c : ℕ) (p : List ℕ) → c < 128 → IsUtf8 p → IsUtf8 (c ∷ p)
-before_text c p h k = IsUtf8-append (c ∷ []) p (IsUtf8-from_ascii (c ∷ []) (IsAscii-cons c [] h IsAscii-nil)) k
 
 no_letter : (c : ℕ) → c ≤ 57 → (is_letter c || c == 95) ≡ false
 no_letter c h = grind (arith, nat_tests)

@@ -1,26 +1,28 @@
 -- What the end of the text gives.
-use Rattle.std.proofs.Common.{◌≡◌, ℕ, ◌+◌, ◌-◌, ◌*◌, ◌<◌, ◌≤◌, ◌^◌, Bool, true, false, List, [], ◌∷◌, ◌++◌, length, Option, Some, None, Result, Ok, Err, refl, sym, ap, ◌∙◌, subst, inl, inr, append-nil, append_assoc, length-append, arith}
-use Rattle.std.specs.Prelude.{ℤ, ◌⊎◌, IsUtf8, sum_by}
-use Rattle.flow_term.specs.Trees.{term_size, term_depth}
+use Rattle.std.proofs.Common.{◌≡◌, ℕ, ◌+◌, ◌≤◌, ◌^◌, List, [], ◌∷◌, ◌++◌, length, Option, Some, None, Result, Ok, Err, refl, sym, ap, ◌∙◌, subst, inl, inr, append-nil, length-append, arith}
+use Rattle.std.specs.Prelude.{ℤ, IsUtf8}
+use Rattle.flow_term.specs.Trees.{term_size, term_depth, deepest}
 use Rattle.flow_term.specs.declared.term.Term.{Term}
 use Rattle.flow_term.specs.declared.term.Kind.{Kind}
 use Rattle.flow_term.specs.declared.term.Kind.TheVariants as kind
+use Rattle.quoted_text.proofs.Escapes.{low_is_octal, octal_long}
+use Rattle.quoted_text.specs.Escapes.{short_escape, IsEscape, short, octal}
+use Rattle.quoted_text.specs.Quotes.{IsQuoted}
 use Rattle.aterm_text.specs.declared.number.Number.{Number}
 use Rattle.aterm_text.specs.declared.open.Open.{Open}
 use Rattle.aterm_text.specs.declared.reader.state.Escape.{Escape}
 use Rattle.aterm_text.specs.declared.reader.state.Last.{Last}
 use Rattle.aterm_text.specs.declared.reader.state.Last.TheVariants as last
 use Rattle.aterm_text.specs.declared.refusal.TermFaultKind.{TermFaultKind}
-use Rattle.aterm_text.specs.declared.refusal.TermFaultKind.TheVariants.{NotUtf8, Unexpected, BadEscape, IntRange}
-use Rattle.aterm_text.specs.Bytes.{is_octal, short_escape}
+use Rattle.aterm_text.specs.declared.refusal.TermFaultKind.TheVariants.{NotUtf8, Unexpected, BadEscape}
 use Rattle.aterm_text.specs.Faults.{Begins, IsDue}
-use Rattle.aterm_text.specs.Grammar.{term, IsSymbol, IsEscape, short, octal, IsQuoted, number_of, signed, sign_text, IsI64, IsTerm, bare, IsBody}
-use Rattle.aterm_text.specs.inner.Machine.{State, state, ended_number, ended, outermost, finish, ◌>>=◌}
+use Rattle.aterm_text.specs.Grammar.{term, IsSymbol, number_of, signed, sign_text, IsI64, IsTerm, IsBody}
+use Rattle.aterm_text.specs.inner.Machine.{state, ended_number, outermost, finish, ◌>>=◌}
 use Rattle.aterm_text.specs.Numbers.{integer_of}
-use Rattle.aterm_text.proofs.Sizes.{deepest, parts_of, size_term, depth_term, parts_apply, parts_int, parts_text}
-use Rattle.aterm_text.proofs.Runs.{IntegerIs, integer_is, low_is_octal, octal_long}
+use Rattle.aterm_text.proofs.Sizes.{parts_of, size_term, depth_term, parts_apply, parts_int, parts_text}
+use Rattle.aterm_text.proofs.Runs.{IntegerIs, integer_is}
 use Rattle.aterm_text.proofs.Complete.{body_size}
-use Rattle.aterm_text.proofs.Spelled.{Behind, Quoting, Escaping, NumberAt, Spelled, Fits, Means, fits_as, behind_as, behind_at, head_due}
+use Rattle.aterm_text.proofs.Spelled.{Behind, Quoting, Escaping, NumberAt, Fits, Means, fits_as, behind_as, behind_at, head_due}
 use Rattle.aterm_text.proofs.Lives.{as_bare, term_lives, due_lives, minus_lives, quoting_lives}
 use Rattle.aterm_text.proofs.Sound.{Between, leaf_fits, symbol_as_body, quoted_as_body, number_between, number_whole, integer_body}
 

@@ -1,12 +1,14 @@
 -- Where a row of the table of faults stands, reading stops there or before it.
-use Rattle.std.proofs.Common.{◌≡◌, ℕ, zero, suc, ◌+◌, ◌-◌, ◌*◌, ◌<◌, ◌≤◌, ◌^◌, Bool, true, false, List, [], ◌∷◌, ◌++◌, length, Option, Some, None, Result, Ok, Err, refl, sym, ap, ◌∙◌, subst, inl, inr, append-nil, append_assoc, length-append, arith, lit≤, take, get_or}
-use Rattle.std.specs.Prelude.{ℤ, pos, negsuc, ◌⊎◌, ◌==◌, ◌||◌, IsTrue, IsUtf8, if◌then◌else◌, nat_le, nat_lt}
+use Rattle.std.proofs.Common.{◌≡◌, ℕ, zero, suc, ◌+◌, ◌-◌, ◌*◌, ◌<◌, ◌≤◌, ◌^◌, Bool, true, false, List, [], ◌∷◌, ◌++◌, length, Option, Some, None, Result, Ok, Err, refl, sym, ap, ◌∙◌, subst, inl, inr, append-nil, append_assoc, length-append, arith}
+use Rattle.std.specs.Prelude.{ℤ, pos, negsuc, ◌⊎◌, ◌==◌, ◌||◌, IsUtf8, if◌then◌else◌, nat_le, nat_lt}
 use Rattle.std.proofs.lemmas.Bool.Decides.{nat_tests}
 use Rattle.std.specs.Str.{IsValidUpTo}
 use Rattle.std.proofs.Math.Seq.{take-length}
 use Rattle.flow_term.specs.declared.term.Term.{Term}
+use Rattle.quoted_text.proofs.Escapes.{same_byte, low_high, low_is_octal, octal_high}
+use Rattle.quoted_text.specs.Escapes.{is_low_octal, is_octal, octal_value, short_escape, IsEscape, short, octal}
 use Rattle.aterm_text.specs.declared.class.ByteClass.{ByteClass}
-use Rattle.aterm_text.specs.declared.class.ByteClass.TheVariants.{Letter, Digit, Minus, Exclamation, Less, Other}
+use Rattle.aterm_text.specs.declared.class.ByteClass.TheVariants.{Letter, Digit, Exclamation, Less, Other}
 use Rattle.aterm_text.specs.declared.number.Number.{Number}
 use Rattle.aterm_text.specs.declared.open.Open.{Open}
 use Rattle.aterm_text.specs.declared.reader.state.Escape.{Escape}
@@ -14,19 +16,18 @@ use Rattle.aterm_text.specs.declared.reader.state.Last.{Last}
 use Rattle.aterm_text.specs.declared.reader.state.Last.TheVariants as last
 use Rattle.aterm_text.specs.declared.refusal.TermFaultKind.{TermFaultKind}
 use Rattle.aterm_text.specs.declared.refusal.TermFaultKind.TheVariants.{NotUtf8, Unexpected, Shared, Placeholder, Real, Blob, BadEscape, IntRange, TooDeep, TooMany}
-use Rattle.aterm_text.specs.Bytes.{class_of, begins_term, misplaced, is_real_mark, is_low_octal, is_octal, octal_value, short_escape}
-use Rattle.aterm_text.specs.Faults.{Begins, IsDue, begun_in, StartsWith, is_digit, continues_number, EndsNumber, NumberBetween, BadEscapeBetween, CannotGoOn, StandsBetween, IsFault, rank, ComesFirst}
-use Rattle.aterm_text.specs.Grammar.{IsEscape, short, octal, IsDigits, number_of, signed, sign_text, IsNumeral, IsI64, IsText, TermText}
-use Rattle.aterm_text.specs.inner.Machine.{State, state, Next, limited, begin_within, begin, escaped, in_one_octal, in_two_octals, after_number, after_integer, in_number, step_by, step, run, ended_number, outermost, finish, nothing, reading, ◌>>=◌}
-use Rattle.aterm_text.specs.Numbers.{more_digits, with_digit, integer_within, integer_of}
-use Rattle.aterm_text.proofs.Classes.{same_byte, class_quote, class_minus, class_exclamation, class_less}
-use Rattle.aterm_text.proofs.Runs.{bind_is, lt_false, run_append, run_on, CanBegin, begins, NumberIs, ReadsNumeral, reads_numeral, reads_inside, IntegerIs, integer_is, low_high, low_is_octal, octal_high}
+use Rattle.aterm_text.specs.Bytes.{class_of, begins_term, misplaced, is_real_mark}
+use Rattle.aterm_text.specs.Faults.{Begins, begun_in, StartsWith, is_digit, EndsNumber, NumberBetween, BadEscapeBetween, CannotGoOn, StandsBetween, IsFault, rank, ComesFirst}
+use Rattle.aterm_text.specs.Grammar.{IsDigits, number_of, sign_text, IsNumeral, IsI64, IsText}
+use Rattle.aterm_text.specs.inner.Machine.{State, state, Next, limited, begin_within, escaped, in_one_octal, in_two_octals, after_number, after_integer, in_number, step_by, step, run, ended_number, outermost, finish, nothing, reading, ◌>>=◌}
+use Rattle.aterm_text.specs.Numbers.{with_digit, integer_within, integer_of}
+use Rattle.aterm_text.proofs.Classes.{class_quote, class_minus, class_exclamation, class_less}
+use Rattle.aterm_text.proofs.Runs.{lt_false, run_append, run_on, CanBegin, begins, ReadsNumeral, reads_numeral, reads_inside, IntegerIs, integer_is}
 use Rattle.aterm_text.proofs.Limits.{IsLimit, MeetsLimit, bind_err}
 use Rattle.aterm_text.proofs.Spelled.{NumberAt, Means}
-use Rattle.aterm_text.proofs.Sound.{Stops}
-use Rattle.aterm_text.proofs.Traces.{MeansState, nothing_means, run_means, Stopped, run_stops, front_utf8, sound}
+use Rattle.aterm_text.proofs.Traces.{nothing_means, run_means, Stopped, run_stops, front_utf8, sound}
 use Rattle.aterm_text.proofs.Reaches.{Reaches, due_reaches}
-use Rattle.aterm_text.proofs.Rows.{Faulted, faulted, stops_bound}
+use Rattle.aterm_text.proofs.Rows.{faulted, stops_bound}
 use Rattle.aterm_text.proofs.Alive.{inside_lives, IsDead, alive}
 
 -- reading gives a fault that comes before a row, or is at its byte and of no higher rank
@@ -168,11 +169,6 @@ range_number k stack begun at n c h g i =
     ap (λ (x : Bool). if x then Err (n.start, Real) else (if c == 58 then Err (n.start, Blob) else after_integer (integer_of n) k stack begun at n.start c)) h
     ∙ ap (λ (x : Bool). if x then Err (n.start, Blob) else after_integer (integer_of n) k stack begun at n.start c) g
     ∙ ap (λ (o : Option ℤ). after_integer o k stack begun at n.start c) i
-
--- marks are no digits
-mark_class : (c : ℕ) → (class_of c ≡ Letter ⊎ class_of c ≡ Other) → is_digit (class_of c) ≡ false
-mark_class c (inl h) = ap is_digit h
-mark_class c (inr h) = ap is_digit h
 
 class_46 : class_of 46 ≡ Other
 unfolding class_of

@@ -1,5 +1,5 @@
 -- Reading with the limits is reading without them, up to where a term begins that is too deep or one too many.
-use Rattle.std.proofs.Common.{◌≡◌, ℕ, ◌+◌, ◌<◌, ◌≤◌, ◌^◌, Bool, true, false, List, [], ◌∷◌, ◌++◌, length, Option, Result, Ok, Err, refl, sym, ap, ◌∙◌, subst, inl, inr, arith}
+use Rattle.std.proofs.Common.{◌≡◌, ℕ, ◌+◌, ◌<◌, ◌^◌, Bool, true, false, List, [], ◌∷◌, length, Ok, Err, refl, sym, ap, ◌∙◌, subst, inl, inr, arith}
 use Rattle.std.specs.Prelude.{◌⊎◌, if◌then◌else◌, nat_le}
 use Rattle.aterm_text.specs.declared.class.ByteClass.{ByteClass}
 use Rattle.aterm_text.specs.declared.class.ByteClass.TheVariants.{Blank, Closing}
@@ -9,7 +9,7 @@ use Rattle.aterm_text.specs.declared.reader.state.Last.TheVariants as last
 use Rattle.aterm_text.specs.declared.refusal.TermFaultKind.{TermFaultKind}
 use Rattle.aterm_text.specs.declared.refusal.TermFaultKind.TheVariants.{Unexpected, TooDeep, TooMany}
 use Rattle.aterm_text.specs.Bytes.{class_of, begins_term, misplaced}
-use Rattle.aterm_text.specs.inner.Machine.{State, state, Next, limited, begin_within, begin, step_by, step, run, ◌>>=◌}
+use Rattle.aterm_text.specs.inner.Machine.{State, state, Next, begin_within, begin, step_by, step, run, ◌>>=◌}
 use Rattle.aterm_text.proofs.Runs.{bind_is, bound_ok}
 
 abbrev pub IsLimit : TermFaultKind → Type 0

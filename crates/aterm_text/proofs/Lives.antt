@@ -1,25 +1,18 @@
 -- What has been read goes on to a text.
-use Rattle.std.proofs.Common.{◌≡◌, ℕ, zero, ◌+◌, ◌<◌, ◌≤◌, List, [], ◌∷◌, ◌++◌, length, refl, sym, ap, ◌∙◌, subst, append-nil, append_assoc, length-append, inl, inr, arith, lit<, true, pos}
-use Rattle.std.specs.Prelude.{IsTrue, IsUtf8}
-use Rattle.std.proofs.lemmas.Str.Ascii.{IsAscii-nil, IsAscii-cons}
-use Rattle.std.proofs.lemmas.Str.{IsUtf8-nil, IsUtf8-append, IsUtf8-from_ascii}
+use Rattle.std.proofs.Common.{◌≡◌, ℕ, ◌<◌, List, [], ◌∷◌, ◌++◌, refl, sym, ap, ◌∙◌, subst, append-nil, append_assoc, arith, lit<, true, pos}
+use Rattle.std.specs.Prelude.{IsUtf8}
 use Rattle.flow_term.specs.declared.term.Term.{Term}
 use Rattle.flow_term.specs.declared.term.Kind.{Kind}
 use Rattle.flow_term.specs.declared.term.Kind.TheVariants as kind
-use Rattle.aterm_text.specs.declared.class.ByteClass.TheVariants.{Letter, Digit}
+use Rattle.quoted_text.proofs.Cuts.{with_byte}
 use Rattle.aterm_text.specs.declared.open.Open.{Open}
 use Rattle.aterm_text.specs.declared.open.Opener.{Opener}
 use Rattle.aterm_text.specs.declared.open.Opener.TheVariants.{Call, Tuple, Items, Annotations}
 use Rattle.aterm_text.specs.Bytes.{class_of}
 use Rattle.aterm_text.specs.Faults.{Begins, IsDue}
-use Rattle.aterm_text.specs.Grammar.{term, IsBlank, IsSymbol, IsInside, IsQuoted, IsNumeral, IsTerm, bare, IsBody, symbol, text, number, IsText}
-use Rattle.aterm_text.specs.inner.Machine.{closed_as}
-use Rattle.aterm_text.specs.inner.Open.{closing_byte_of, with_item}
-use Rattle.aterm_text.proofs.Spelled.{Behind, Quoting, Closes, closed_spelled, behind_as, behind_at, with_last}
-
--- a text and a byte of ASCII behind it
-pub with_byte : (p : List ℕ) (c : ℕ) → c < 128 → IsUtf8 p → IsUtf8 (p ++ c ∷ [])
-with_byte p c h k = IsUtf8-append p (c ∷ []) k (IsUtf8-from_ascii (c ∷ []) (IsAscii-cons c [] h IsAscii-nil))
+use Rattle.aterm_text.specs.Grammar.{term, IsSymbol, IsNumeral, IsTerm, bare, IsBody, symbol, text, number, IsText}
+use Rattle.aterm_text.specs.inner.Open.{closing_byte_of}
+use Rattle.aterm_text.proofs.Spelled.{Behind, Quoting, Closes, closed_spelled, behind_as, behind_at, closes_with}
 
 -- what begins a text begins one with less
 pub begins_less : (p q : List ℕ) → Begins (p ++ q) → Begins p
@@ -65,18 +58,8 @@ term_lives [] t p h u = record {
   };
 }
 term_lives (o ∷ below) t p h u =
-    let d : IsDue (o ∷ below) h.front = h.due in
-    let c : Closes (with_item o t) below p = record {
-      front = d.0;
-      head = d.1;
-      inside = d.2 ++ (h.spelling ++ h.blank);
-      due = d.3;
-      is_head = d.4;
-      terms = with_last o.items d.2 t h.spelling h.blank d.5 h.spells h.blanks;
-      whole = h.whole ∙ ap (λ (xs : List ℕ). xs ++ (h.spelling ++ h.blank)) d.6 ∙ simp append_assoc;
-    } in
     begins_less p (closing_byte_of o.opener ∷ [])
-    (term_lives below (closed_term o.opener (o.items ++ t ∷ [])) (p ++ closing_byte_of o.opener ∷ []) (closed_behind o.opener (o.items ++ t ∷ []) below p c) (with_byte p (closing_byte_of o.opener) (closing_ascii o.opener) u))
+    (term_lives below (closed_term o.opener (o.items ++ t ∷ [])) (p ++ closing_byte_of o.opener ∷ []) (closed_behind o.opener (o.items ++ t ∷ []) below p (closes_with o below t p h)) (with_byte p (closing_byte_of o.opener) (closing_ascii o.opener) u))
 
 -- a body
 pub body_lives : (stack : List Open) (k : Kind) (p : List ℕ) → Behind (λ s. IsBody s k) stack p → IsUtf8 p → Begins p

@@ -1,5 +1,5 @@
 -- Reading comes to each place where a term is to begin, or stops before it at a limit.
-use Rattle.std.proofs.Common.{◌≡◌, ℕ, ◌+◌, ◌<◌, ◌≤◌, ◌^◌, Bool, true, false, List, [], ◌∷◌, ◌++◌, length, Result, Ok, Err, refl, sym, ap, ◌∙◌, subst, inl, inr, append-nil, append_assoc, arith}
+use Rattle.std.proofs.Common.{◌≡◌, ℕ, ◌+◌, true, false, List, [], ◌∷◌, ◌++◌, length, Ok, refl, sym, ap, ◌∙◌, subst, inl, inr, append-nil, arith}
 use Rattle.std.specs.Prelude.{◌⊎◌, sum_by}
 use Rattle.flow_term.specs.Trees.{term_size}
 use Rattle.flow_term.specs.declared.term.Term.{Term}
@@ -12,10 +12,9 @@ use Rattle.aterm_text.specs.declared.reader.state.Last.{Last}
 use Rattle.aterm_text.specs.declared.reader.state.Last.TheVariants as last
 use Rattle.aterm_text.specs.Faults.{IsHead, AreFollowed, no_item, item, IsDue, opener_size, begun_in}
 use Rattle.aterm_text.specs.Grammar.{IsBlank}
-use Rattle.aterm_text.specs.inner.Machine.{State, state, Next, run, nothing}
-use Rattle.aterm_text.specs.inner.Open.{with_item}
+use Rattle.aterm_text.specs.inner.Machine.{State, state, run, nothing}
 use Rattle.aterm_text.proofs.Classes.{class_bracket, class_parenthesis}
-use Rattle.aterm_text.proofs.Sizes.{parts_of, size_more}
+use Rattle.aterm_text.proofs.Sizes.{size_more}
 use Rattle.aterm_text.proofs.Runs.{run_on, CanBegin, skip_before, HasRoom, begins_with, opens, opens_annotations}
 use Rattle.aterm_text.proofs.Complete.{body_size, Room, RoomBody, ReadsBody, Reads, item_on, name_opens, reads_term, reads_body}
 use Rattle.aterm_text.proofs.Limits.{MeetsLimit, run_limited}

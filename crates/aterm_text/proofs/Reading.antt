@@ -1,11 +1,13 @@
 -- What the answers of the reader say of terms and faults.
-use Rattle.std.proofs.Common.{◌≡◌, ℕ, ◌+◌, ◌-◌, ◌<◌, ◌≤◌, ◌*◌, Bool, true, false, List, [], ◌∷◌, ◌++◌, length, reverse, take, drop, get_or, Result, Ok, Err, refl, sym, ap, ◌∙◌, subst, inl, inr, append_assoc, add-one, drop-cons, arith}
-use Rattle.std.specs.Prelude.{◌⊎◌, IfOk, IsUtf8, nat_lt}
+use Rattle.std.proofs.Common.{◌≡◌, ℕ, ◌+◌, ◌-◌, ◌<◌, ◌≤◌, ◌*◌, Bool, true, false, List, [], ◌∷◌, ◌++◌, length, reverse, take, drop, get_or, Result, Ok, Err, refl, sym, ap, ◌∙◌, subst, inl, inr, add-one, drop-cons, arith}
+use Rattle.std.specs.Prelude.{IfOk, IsUtf8, nat_lt}
 use Rattle.std.specs.Str.{IsValidUpTo}
-use Rattle.std.proofs.Math.Seq.{take-length, take-suc}
+use Rattle.std.proofs.Math.Seq.{take-suc}
 use Rattle.std.proofs.lemmas.List.{take-append-drop, length-take-le}
 use Rattle.std.proofs.lemmas.Bool.Decides.{nat_tests}
 use Rattle.flow_term.specs.declared.term.Term.{Term}
+use Rattle.quoted_text.proofs.Insides.{inside_utf8}
+use Rattle.quoted_text.specs.Escapes.{is_low_octal, is_octal}
 use Rattle.aterm_text.specs.declared.open.Open.{Open}
 use Rattle.aterm_text.specs.declared.reader.state.Last.{Last}
 use Rattle.aterm_text.specs.declared.reader.state.Last.TheVariants as last
@@ -15,7 +17,6 @@ use Rattle.aterm_text.specs.declared.refusal.TermFaultKind.TheVariants.{NotUtf8,
 use Rattle.aterm_text.specs.declared.refusal.TermRefusal.{TermRefusal}
 use Rattle.aterm_text.specs.declared.refusal.TermRefusal.TheVariants.{Fault, NoMemory}
 use Rattle.aterm_text.specs.inner.Answers.{state_of, AnswersTerm, IsReady, IfFault, UnlessNoMemory}
-use Rattle.aterm_text.specs.Bytes.{is_low_octal, is_octal}
 use Rattle.aterm_text.specs.Faults.{IsFault, rank, ComesFirst, TermFaulty}
 use Rattle.aterm_text.specs.Grammar.{TermText}
 use Rattle.aterm_text.specs.Laws.{HasOneAnswer}
@@ -25,7 +26,6 @@ use Rattle.aterm_text.proofs.Spelled.{Quoting, Means}
 use Rattle.aterm_text.proofs.Traces.{nothing_means, run_means, complete, sound}
 use Rattle.aterm_text.proofs.Rows.{faulted}
 use Rattle.aterm_text.proofs.First.{Answered, answered}
-use Rattle.aterm_text.proofs.Utf8.{inside_utf8}
 
 -- ** a byte may be met where it is
 

@@ -1,17 +1,17 @@
 -- Where reading stops, a row of the table of faults stands.
-use Rattle.std.proofs.Common.{◌≡◌, ℕ, ◌+◌, ◌<◌, ◌≤◌, Bool, true, false, List, [], ◌∷◌, ◌++◌, length, Result, Ok, Err, refl, sym, ap, ◌∙◌, subst, inl, inr, append-nil, append_assoc, length-append, arith}
+use Rattle.std.proofs.Common.{◌≡◌, ℕ, ◌+◌, ◌≤◌, true, false, List, [], ◌∷◌, ◌++◌, length, Result, Ok, Err, refl, sym, ap, ◌∙◌, subst, append-nil, append_assoc, length-append, arith}
 use Rattle.std.specs.Prelude.{IsUtf8}
 use Rattle.flow_term.specs.declared.term.Term.{Term}
 use Rattle.aterm_text.specs.declared.refusal.TermFaultKind.{TermFaultKind}
-use Rattle.aterm_text.specs.declared.refusal.TermFaultKind.TheVariants.{NotUtf8, Unexpected, Shared, Placeholder, Real, Blob, BadEscape, IntRange, TooDeep, TooMany}
+use Rattle.aterm_text.specs.declared.refusal.TermFaultKind.TheVariants.{NotUtf8, Unexpected}
 use Rattle.aterm_text.specs.Faults.{Begins, IsFault}
 use Rattle.aterm_text.specs.Grammar.{IsText}
-use Rattle.aterm_text.specs.inner.Machine.{State, state, Next, step, run, finish, nothing, reading, ◌>>=◌}
+use Rattle.aterm_text.specs.inner.Machine.{State, Next, step, run, finish, nothing, reading, ◌>>=◌}
 use Rattle.aterm_text.proofs.Runs.{run_on}
-use Rattle.aterm_text.proofs.Limits.{same_err, unexpected_same, bind_err, run_free}
-use Rattle.aterm_text.proofs.Sound.{Between, Stops}
+use Rattle.aterm_text.proofs.Limits.{unexpected_same, bind_err, run_free}
+use Rattle.aterm_text.proofs.Sound.{Stops}
 use Rattle.aterm_text.proofs.Ends.{Ends, MeansEnd}
-use Rattle.aterm_text.proofs.Traces.{MeansState, nothing_means, Stopped, run_stops, front_utf8, stopped_outside, ReadsText, reads_text, end_of}
+use Rattle.aterm_text.proofs.Traces.{nothing_means, Stopped, run_stops, front_utf8, stopped_outside, ReadsText, reads_text, end_of}
 
 pub no_limits : {P : Type 0} → false ≡ true → P
 no_limits e = cc

@@ -1,29 +1,31 @@
 -- Runs over blanks, symbols, texts and numbers.
-use Rattle.std.proofs.Common.{◌≡◌, ℕ, ◌+◌, ◌-◌, ◌*◌, ◌<◌, ◌≤◌, ◌^◌, Bool, true, false, List, [], ◌∷◌, ◌++◌, length, map, Option, Some, None, Result, Ok, Err, pos, refl, sym, ap, ◌∙◌, subst, inl, inr, append-nil, append_assoc, arith, zero, suc}
+use Rattle.std.proofs.Common.{◌≡◌, ℕ, ◌+◌, ◌-◌, ◌*◌, ◌<◌, ◌≤◌, ◌^◌, Bool, true, false, List, [], ◌∷◌, ◌++◌, length, map, Option, Some, None, Ok, Err, pos, refl, sym, ap, ◌∙◌, subst, inl, inr, append-nil, append_assoc, arith, zero, suc}
 use Rattle.std.proofs.lemmas.Bool.Decides.{nat_tests}
 use Rattle.std.proofs.lemmas.Option.{same_Some}
 use Rattle.std.specs.List.{AllByRecursion}
 use Rattle.std.specs.Int.Digits.{number_from_digits_after}
-use Rattle.std.proofs.lemmas.Int.Digits.{number_after_ge}
 use Rattle.std.specs.Prelude.{ℤ, negsuc, ◌⊎◌, ◌&&◌, ◌==◌, not, IsTrue, if◌then◌else◌, nat_lt, nat_le, option_map}
 use Rattle.flow_term.specs.declared.term.Term.{Term}
 use Rattle.flow_term.specs.declared.term.Kind.{Kind}
 use Rattle.flow_term.specs.declared.term.Kind.TheVariants as kind
+use Rattle.quoted_text.specs.Escapes.{is_low_octal, is_octal, octal_value, short_escape, IsEscape, short, octal}
+use Rattle.quoted_text.specs.Quotes.{is_plain, IsPiece, IsInside, IsQuoted}
+use Rattle.quoted_text.proofs.Escapes.{low_first, low_is_octal, octal_long}
 use Rattle.aterm_text.specs.declared.class.ByteClass.{ByteClass}
 use Rattle.aterm_text.specs.declared.class.ByteClass.TheVariants.{Letter, Digit, Minus, Sign, Blank, Quote, Comma, Parenthesis, Bracket, Brace, Closing}
 use Rattle.aterm_text.specs.declared.number.Number.{Number}
 use Rattle.aterm_text.specs.declared.open.Open.{Open}
 use Rattle.aterm_text.specs.declared.open.Opener.{Opener}
-use Rattle.aterm_text.specs.declared.open.Opener.TheVariants.{Call, Tuple, Items, Annotations}
+use Rattle.aterm_text.specs.declared.open.Opener.TheVariants.{Call, Annotations}
 use Rattle.aterm_text.specs.declared.reader.state.Escape.{Escape}
 use Rattle.aterm_text.specs.declared.reader.state.Last.{Last}
 use Rattle.aterm_text.specs.declared.reader.state.Last.TheVariants as last
 use Rattle.aterm_text.specs.declared.refusal.TermFaultKind.TheVariants.{Real, Blob, TooDeep, TooMany, BadEscape}
-use Rattle.aterm_text.specs.Bytes.{class_of, is_in_symbol, begins_term, misplaced, is_plain, is_low_octal, is_octal, octal_value, short_escape, is_real_mark}
-use Rattle.aterm_text.specs.Grammar.{term, IsBlank, IsSymbol, IsEscape, short, octal, IsPiece, IsInside, IsQuoted, IsName, IsDigits, number_of, signed, sign_text, IsNumeral, IsI64}
-use Rattle.aterm_text.specs.inner.Machine.{State, state, Next, limited, opened, begin_within, begin, after, after_body, comma, close_after, after_number, after_integer, in_quotes, escaped, in_one_octal, in_two_octals, step, step_by, run, ◌>>=◌}
+use Rattle.aterm_text.specs.Bytes.{class_of, is_in_symbol, begins_term, misplaced}
+use Rattle.aterm_text.specs.Grammar.{term, IsBlank, IsSymbol, IsDigits, number_of, signed, sign_text, IsNumeral, IsI64}
+use Rattle.aterm_text.specs.inner.Machine.{State, state, Next, limited, begin_within, begin, after_body, comma, close_after, after_number, after_integer, in_quotes, escaped, in_one_octal, in_two_octals, step, step_by, run, ◌>>=◌}
 use Rattle.aterm_text.specs.Numbers.{more_digits, with_digit, integer_within, integer_of}
-use Rattle.aterm_text.proofs.Classes.{class_quote, class_minus, class_parenthesis, class_brace, ends_number, not_real, not_colon, digit_high}
+use Rattle.aterm_text.proofs.Classes.{class_quote, class_minus, class_parenthesis, class_brace, ends_number, not_real, not_colon}
 
 -- ** runs over two pieces
 
@@ -167,33 +169,6 @@ plain_chosen false false A B C h = refl
 
 pub plain_step : (stack : List Open) (begun at : ℕ) (chars : List ℕ) (c : ℕ) → is_plain c ≡ true → in_quotes stack begun at chars c ≡ Ok (state stack begun (last.Inside (chars ++ c ∷ [])))
 plain_step stack begun at chars c h = plain_chosen (c == 34) (c == 92) _ _ _ h
-
-not_octal : (a n : ℕ) → is_octal a ≡ true → n < 48 → (a == n) ≡ false
-not_octal a n h g = grind (arith, nat_tests)
-
-not_octal_high : (a n : ℕ) → is_octal a ≡ true → 56 ≤ n → (a == n) ≡ false
-not_octal_high a n h g = grind (arith, nat_tests)
-
-pub octal_long : (a : ℕ) → is_octal a ≡ true → short_escape a ≡ None
-octal_long a h = rw (not_octal a 34 h (omega arith), not_octal_high a 92 h (omega arith), not_octal_high a 110 h (omega arith), not_octal_high a 116 h (omega arith), not_octal_high a 114 h (omega arith)) refl
-
-pub low_is_octal : (a : ℕ) → is_low_octal a ≡ true → is_octal a ≡ true
-low_is_octal a h = grind (arith, nat_tests)
-
-pub low_high : (c : ℕ) → is_low_octal c ≡ true → c ≤ 49
-low_high c h = grind (arith, nat_tests)
-
-pub octal_high : (c : ℕ) → is_octal c ≡ true → c ≤ 55
-octal_high c h = grind (arith, nat_tests)
-
-pub low_octal : (a : ℕ) → is_octal a ≡ true → a ≤ 49 → is_low_octal a ≡ true
-low_octal a h g = grind (arith, nat_tests)
-
-octal_low : (a : ℕ) → is_octal a ≡ true → 48 ≤ a
-octal_low a h = grind (arith, nat_tests)
-
-pub low_first : (a b c : ℕ) → is_octal a ≡ true → octal_value a b c < 128 → is_low_octal a ≡ true
-low_first a b c h g = let low : 48 ≤ a = octal_low a h in low_octal a h (omega arith)
 
 first_octal : (stack : List Open) (begun : ℕ) (e : Escape) (a : ℕ) → is_low_octal a ≡ true → escaped stack begun e a (short_escape a) ≡ Ok (state stack begun (last.OneOctal e (a - 48)))
 first_octal stack begun e a h = ap (escaped stack begun e a) (octal_long a (low_is_octal a h)) ∙ ap (λ (x : Bool). if x then Ok (state stack begun (last.OneOctal e (a - 48))) else Err (e.start, BadEscape)) h

@@ -1,40 +1,14 @@
 -- The size and the depth of a term, by one level.
-use Rattle.std.proofs.Common.{◌≡◌, ℕ, ◌+◌, ◌≤◌, List, [], ◌∷◌, ◌++◌, map, max, refl, ap, ◌∙◌, arith}
+use Rattle.std.proofs.Common.{◌≡◌, ℕ, ◌+◌, List, [], ◌∷◌, ◌++◌, max, ap, ◌∙◌, arith}
 use Rattle.std.specs.Prelude.{sum_by, ℤ}
 use Rattle.std.proofs.lemmas.List.Sums.{sum_by-append, sum_by-cons}
-use Rattle.flow_term.specs.declared.term.Term.{Term, Term-F, out-Term, out-roll-Term, fold_out-Term}
-use Rattle.flow_term.specs.declared.term.Kind.{Kind, Kind-F, out-Kind, fold-Kind, fold_out-Kind, map-Kind}
+use Rattle.flow_term.specs.declared.term.Term.{Term, Term-F, out-roll-Term}
+use Rattle.flow_term.specs.declared.term.Kind.{Kind, Kind-F, out-Kind}
 use Rattle.flow_term.specs.declared.term.Kind.TheVariants as kind
 use Rattle.flow_term.specs.declared.term.Kind.TheVariants.{outs-Apply, outs-Items, outs-Int, outs-Str, outs-Tuple}
-use Rattle.flow_term.specs.Trees.{term_size, term_depth, greatest, parts, children}
-use Rattle.flow_term.proofs.Sizes.{term_size_out}
+use Rattle.flow_term.specs.Trees.{term_size, term_depth, deepest, parts}
+use Rattle.flow_term.proofs.Sizes.{term_size_out, term_depth_out}
 use Rattle.aterm_text.specs.Grammar.{term}
-
-abbrev kind_step : Kind-F ℕ ℕ → ℕ
-kind_step k = greatest (parts k)
-
-abbrev term_step : Term-F ℕ ℕ → ℕ
-term_step t = 1 + max t.kind (greatest t.annos)
-
-abbrev kind_depth : Kind → ℕ
-kind_depth = fold-Kind ℕ ℕ kind_step term_step
-
--- the depth of the deepest
-abbrev pub deepest : List Term → ℕ
-deepest ts = greatest (map term_depth ts)
-
-parts_deep : (x : Kind-F Kind Term) → greatest (parts (map-Kind Kind Term ℕ ℕ kind_depth term_depth x)) ≡ deepest (parts x)
-parts_deep (Kind-F.Apply name args) = refl
-parts_deep (Kind-F.Tuple items) = refl
-parts_deep (Kind-F.Items items) = refl
-parts_deep (Kind-F.Int n) = refl
-parts_deep (Kind-F.Str text) = refl
-
--- a term's depth is by its children's and its annotations'
-term_depth_out : (t : Term) → term_depth t ≡ 1 + max (deepest (children t)) (deepest (out-Term t).annos)
-term_depth_out t =
-    fold_out-Term ℕ ℕ kind_step term_step t
-    ∙ ap (λ k. 1 + max k (deepest (out-Term t).annos)) (fold_out-Kind ℕ ℕ kind_step term_step (out-Term t).kind ∙ parts_deep (out-Kind (out-Term t).kind))
 
 -- the parts of a kind
 abbrev pub parts_of : Kind → List Term
@@ -60,12 +34,6 @@ parts_int n = ap (λ (x : Kind-F Kind Term). parts x) (outs-Int n)
 
 pub parts_text : (chars : List ℕ) → parts_of (kind.Str chars) ≡ []
 parts_text chars = ap (λ (x : Kind-F Kind Term). parts x) (outs-Str chars)
-
-pub size_positive : (t : Term) → 1 ≤ term_size t
-size_positive t = omega (arith, term_size_out t)
-
-pub depth_positive : (t : Term) → 1 ≤ term_depth t
-depth_positive t = omega (arith, term_depth_out t)
 
 -- one item more
 pub deepest_more : (ts : List Term) (t : Term) → deepest (ts ++ t ∷ []) ≡ max (deepest ts) (term_depth t)

@@ -1,17 +1,21 @@
 -- Each step keeps what a state stands for, or stops where a row of the table stands.
-use Rattle.std.proofs.Common.{◌≡◌, ℕ, zero, suc, ◌+◌, ◌-◌, ◌*◌, ◌<◌, ◌≤◌, ◌^◌, Bool, true, false, List, [], ◌∷◌, ◌++◌, length, map, max, Option, Some, None, Result, Ok, Err, refl, sym, ap, ◌∙◌, subst, inl, inr, append-nil, append_assoc, length-append, zero-add, arith, eq-eqb}
-use Rattle.std.specs.Prelude.{ℤ, ◌⊎◌, ◌==◌, ◌||◌, ◌&&◌, not, IsTrue, IsUtf8, if◌then◌else◌, nat_le, nat_lt, sum_by, option_map}
+use Rattle.std.proofs.Common.{◌≡◌, ℕ, ◌+◌, ◌-◌, ◌*◌, ◌<◌, ◌≤◌, ◌^◌, Bool, true, false, List, [], ◌∷◌, ◌++◌, length, map, Option, Some, None, Ok, Err, refl, sym, ap, ◌∙◌, subst, inl, inr, append-nil, append_assoc, length-append, zero-add, arith, eq-eqb}
+use Rattle.std.specs.Prelude.{ℤ, ◌⊎◌, ◌==◌, IsTrue, IsUtf8, if◌then◌else◌, nat_le, sum_by}
 use Rattle.std.specs.List.{AllByRecursion}
 use Rattle.std.specs.Int.Digits.{number_from_digits_after}
 use Rattle.std.proofs.lemmas.Bool.Decides.{nat_tests}
 use Rattle.std.proofs.lemmas.Int.Digits.{number_after_append}
 use Rattle.std.proofs.lemmas.List.{map-append}
-use Rattle.flow_term.specs.Trees.{term_size, term_depth}
+use Rattle.flow_term.specs.Trees.{term_size, term_depth, deepest}
 use Rattle.flow_term.specs.declared.term.Term.{Term}
 use Rattle.flow_term.specs.declared.term.Kind.{Kind}
 use Rattle.flow_term.specs.declared.term.Kind.TheVariants as kind
+use Rattle.quoted_text.proofs.Escapes.{same_byte, low_high, low_is_octal, low_first, octal_long, octal_high, plain_byte}
+use Rattle.quoted_text.specs.Escapes.{is_low_octal, is_octal, short_escape, IsEscape, short, octal}
+use Rattle.quoted_text.specs.Quotes.{IsPiece, IsQuoted}
+use Rattle.quoted_text.proofs.Insides.{piece_more}
 use Rattle.aterm_text.specs.declared.class.ByteClass.{ByteClass}
-use Rattle.aterm_text.specs.declared.class.ByteClass.TheVariants.{Letter, Digit, Minus, Sign, Blank, Quote, Comma, Parenthesis, Bracket, Brace, Closing, Exclamation, Less, Other}
+use Rattle.aterm_text.specs.declared.class.ByteClass.TheVariants.{Letter, Digit, Minus, Sign, Blank, Quote, Comma, Parenthesis, Bracket, Brace, Closing, Exclamation, Less}
 use Rattle.aterm_text.specs.declared.number.Number.{Number}
 use Rattle.aterm_text.specs.declared.open.Open.{Open}
 use Rattle.aterm_text.specs.declared.open.Opener.{Opener}
@@ -20,19 +24,19 @@ use Rattle.aterm_text.specs.declared.reader.state.Escape.{Escape}
 use Rattle.aterm_text.specs.declared.reader.state.Last.{Last}
 use Rattle.aterm_text.specs.declared.reader.state.Last.TheVariants as last
 use Rattle.aterm_text.specs.declared.refusal.TermFaultKind.{TermFaultKind}
-use Rattle.aterm_text.specs.declared.refusal.TermFaultKind.TheVariants.{NotUtf8, Unexpected, Shared, Placeholder, Real, Blob, BadEscape, IntRange, TooDeep, TooMany}
-use Rattle.aterm_text.specs.Bytes.{class_of, is_in_symbol, begins_term, misplaced, is_real_mark, is_plain, is_low_octal, is_octal, octal_value, short_escape}
-use Rattle.aterm_text.specs.Faults.{Begins, IsHead, AreFollowed, no_item, item, IsDue, begun_in, StartsWith, is_digit, continues_number, EndsNumber, NumberBetween, BadEscapeBetween, StandsBetween}
-use Rattle.aterm_text.specs.Grammar.{term, IsBlank, IsSymbol, IsEscape, short, octal, IsPiece, IsInside, IsQuoted, IsName, IsDigits, number_of, signed, sign_text, IsNumeral, IsI64, IsTerm, bare, IsBody, symbol, text, number, AreTerms, none}
-use Rattle.aterm_text.specs.inner.Machine.{State, state, Next, limited, opened, begin_within, begin, closed_as, close, comma, close_after, after, after_body, at_start, at_opening, after_name, in_symbol, in_quotes, escaped, in_escape, in_one_octal, in_two_octals, after_quotes, after_minus, after_integer, after_number, in_number, step_by}
+use Rattle.aterm_text.specs.declared.refusal.TermFaultKind.TheVariants.{NotUtf8, Unexpected, BadEscape}
+use Rattle.aterm_text.specs.Bytes.{class_of, is_in_symbol, begins_term, misplaced, is_real_mark}
+use Rattle.aterm_text.specs.Faults.{Begins, IsHead, item, IsDue, begun_in, is_digit, continues_number, NumberBetween, StandsBetween}
+use Rattle.aterm_text.specs.Grammar.{term, IsBlank, IsSymbol, IsName, IsDigits, number_of, signed, sign_text, IsNumeral, IsI64, IsTerm, IsBody, symbol, text, number, none}
+use Rattle.aterm_text.specs.inner.Machine.{state, Next, opened, begin_within, begin, closed_as, close, comma, close_after, after, after_body, at_start, at_opening, after_name, in_symbol, in_quotes, escaped, in_one_octal, in_two_octals, after_quotes, after_minus, after_integer, after_number, in_number, step_by}
 use Rattle.aterm_text.specs.Numbers.{with_digit, integer_of}
 use Rattle.aterm_text.specs.inner.Open.{closing_byte_of, with_item}
-use Rattle.aterm_text.proofs.Classes.{is_byte_of, same_byte, digit_low}
-use Rattle.aterm_text.proofs.Sizes.{deepest, parts_of, size_term, depth_term, parts_apply, parts_int, parts_text, deepest_more, size_more}
-use Rattle.aterm_text.proofs.Runs.{NumberIs, IntegerIs, integer_is, capped_more, low_high, low_is_octal, low_first, octal_long, octal_high}
+use Rattle.aterm_text.proofs.Classes.{is_byte_of}
+use Rattle.aterm_text.proofs.Sizes.{parts_of, size_term, depth_term, parts_apply, parts_int, parts_text, deepest_more, size_more}
+use Rattle.aterm_text.proofs.Runs.{IntegerIs, integer_is, capped_more}
 use Rattle.aterm_text.proofs.Complete.{body_size}
-use Rattle.aterm_text.proofs.Spelled.{Behind, AtHead, Quoting, Escaping, NumberAt, Spelled, last_depth, last_size, Fits, Means, fits_as, due_blank, head_due, head_blank, behind_blank, behind_as, behind_at, with_last, Closes, closed_spelled, closed_fits}
-use Rattle.aterm_text.proofs.Lives.{as_bare, term_lives, body_lives, due_lives, minus_lives}
+use Rattle.aterm_text.proofs.Spelled.{Behind, AtHead, Quoting, Escaping, NumberAt, Spelled, Fits, Means, fits_as, due_blank, head_due, head_blank, behind_blank, behind_as, behind_at, closes_with, Closes, closed_spelled, closed_fits}
+use Rattle.aterm_text.proofs.Lives.{as_bare, term_lives, due_lives, minus_lives}
 
 -- a row stands behind a front of the bytes of this length
 abbrev pub Between : TermFaultKind → ℕ → List ℕ → Type 0
@@ -164,16 +168,7 @@ comma_means (o ∷ below) begun t c p is b fits =
 close_after_means : (stack : List Open) (begun : ℕ) (t : Term) (c : ℕ) (p : List ℕ) → Behind (λ s. IsTerm s t) stack p → Fits stack begun (term_depth t) (term_size t) → MeansNext (close_after stack begun (length p) t c) p c
 close_after_means [] begun t c p b fits = (refl, λ u. term_lives [] t p b u)
 close_after_means (o ∷ below) begun t c p b fits =
-    let s : IsDue (o ∷ below) b.front = b.due in
-    close_means (with_item o t) below begun c p (record {
-      front = s.0;
-      head = s.1;
-      inside = s.2 ++ (b.spelling ++ b.blank);
-      due = s.3;
-      is_head = s.4;
-      terms = with_last o.items s.2 t b.spelling b.blank s.5 b.spells b.blanks;
-      whole = b.whole ∙ ap (λ (xs : List ℕ). xs ++ (b.spelling ++ b.blank)) s.6 ∙ simp append_assoc;
-    }) (add_fits o below begun t fits) (λ u. term_lives (o ∷ below) t p b u)
+    close_means (with_item o t) below begun c p (closes_with o below t p b) (add_fits o below begun t fits) (λ u. term_lives (o ∷ below) t p b u)
 
 -- ** behind a term
 
@@ -185,19 +180,23 @@ after_means Closing stack begun t c p is b fits = close_after_means stack begun 
 after_means _ stack begun t c p is b fits = (refl, λ u. term_lives stack t p b u)
 
 -- the head that a bracket behind a body or a name makes
+head_open : (R : List ℕ → Type 0) (opener : Opener) (stack : List Open) (byte c : ℕ) (p : List ℕ) → ((s blank : List ℕ) → R s → IsBlank blank → IsHead opener (s ++ (blank ++ byte ∷ []))) → c ≡ byte → Behind R stack p
+    → AtHead (record { opener = opener; items = [] } ∷ stack) (p ++ c ∷ [])
+head_open R opener stack byte c p makes is b = (
+  b.front,
+  b.spelling ++ (b.blank ++ byte ∷ []),
+  [],
+  b.due,
+  makes b.spelling b.blank b.spells b.blanks,
+  tt,
+  refl,
+  at_byte p c byte is ∙ ap (λ (xs : List ℕ). xs ++ byte ∷ []) b.whole ∙ simp (append_assoc, append-nil),
+)
+
 annotations_open : (stack : List Open) (begun : ℕ) (k : Kind) (c : ℕ) (p : List ℕ) → c ≡ 123 → Behind (λ s. IsBody s k) stack p → Fits stack begun (1 + deepest (parts_of k)) (body_size k)
     → MeansNext (opened stack begun (Annotations k)) p c
 annotations_open stack begun k c p is b fits = record {
-  spelled = (
-    b.front,
-    b.spelling ++ (b.blank ++ 123 ∷ []),
-    [],
-    b.due,
-    (b.spelling, b.blank, b.spells, b.blanks, refl),
-    tt,
-    refl,
-    at_byte p c 123 is ∙ ap (λ (xs : List ℕ). xs ++ 123 ∷ []) b.whole ∙ simp (append_assoc, append-nil),
-  );
+  spelled = head_open (λ s. IsBody s k) (Annotations k) stack 123 c p (λ s blank h n. (s, blank, h, n, refl)) is b;
   fits = record { shallow = (omega (arith, fits.deep), omega (arith, fits.deep), fits.shallow); deep = omega (arith, fits.deep); counted = omega (arith, fits.counted); few = fits.few };
 }
 
@@ -213,16 +212,7 @@ after_body_means class stack begun k c p is b fits =
 
 call_open : (stack : List Open) (begun : ℕ) (name : List ℕ) (c : ℕ) (p : List ℕ) → c ≡ 40 → Behind (λ s. IsName s name) stack p → Fits stack begun 1 1 → MeansNext (opened stack begun (Call name)) p c
 call_open stack begun name c p is b fits = record {
-  spelled = (
-    b.front,
-    b.spelling ++ (b.blank ++ 40 ∷ []),
-    [],
-    b.due,
-    (b.spelling, b.blank, b.spells, b.blanks, refl),
-    tt,
-    refl,
-    at_byte p c 40 is ∙ ap (λ (xs : List ℕ). xs ++ 40 ∷ []) b.whole ∙ simp (append_assoc, append-nil),
-  );
+  spelled = head_open (λ s. IsName s name) (Call name) stack 40 c p (λ s blank h n. (s, blank, h, n, refl)) is b;
   fits = open_fits stack begun (Call name) fits (λ k e. cc);
 }
 
@@ -289,10 +279,6 @@ quoted_means k stack begun chars c p is b fits =
     (leaf_fits stack begun (kind.Str chars) (parts_text chars) fits)
 
 -- one piece more inside quotes
-piece_more : (inside chars piece : List ℕ) (value : ℕ) → IsInside inside chars → IsPiece piece value → IsInside (inside ++ piece) (chars ++ value ∷ [])
-piece_more inside [] piece value h k = (piece, [], k, refl, ap (λ (xs : List ℕ). xs ++ piece) h ∙ sym (append-nil piece))
-piece_more inside (d ∷ chars) piece value h k = (h.0, h.1 ++ piece, h.2, piece_more h.1 chars piece value h.3 k, ap (λ (xs : List ℕ). xs ++ piece) h.4 ∙ append_assoc h.0 h.1 piece)
-
 pub quoting_more : (stack : List Open) (chars p piece : List ℕ) (value : ℕ) → Quoting stack chars p → IsPiece piece value → Quoting stack (chars ++ value ∷ []) (p ++ piece)
 quoting_more stack chars p piece value h k = record {
   front = h.front;
@@ -301,9 +287,6 @@ quoting_more stack chars p piece value h k = record {
   is_inside = piece_more h.inside chars piece value h.is_inside k;
   whole = ap (λ (xs : List ℕ). xs ++ piece) h.whole ∙ simp append_assoc;
 }
-
-pub plain_byte : (c : ℕ) → (c == 34) ≡ false → (c == 92) ≡ false → IsTrue (is_plain c)
-plain_byte c h k = rw (h, k) refl
 
 quotes_means : (stack : List Open) (begun : ℕ) (chars : List ℕ) (c : ℕ) (p : List ℕ) → Quoting stack chars p → Fits stack begun 1 1 → MeansNext (in_quotes stack begun (length p) chars c) p c
 quotes_means stack begun chars c p q fits =

@@ -1,10 +1,12 @@
 -- What the states of reading stand for: which bytes have been read, and how deep and large what is open is.
-use Rattle.std.proofs.Common.{◌≡◌, ℕ, ◌+◌, ◌-◌, ◌*◌, ◌<◌, ◌≤◌, ◌^◌, List, [], ◌∷◌, ◌++◌, length, max, refl, sym, ap, ◌∙◌, subst, append-nil, append_assoc, arith}
+use Rattle.std.proofs.Common.{◌≡◌, ℕ, ◌+◌, ◌-◌, ◌*◌, ◌≤◌, ◌^◌, List, [], ◌∷◌, ◌++◌, length, refl, sym, ap, ◌∙◌, subst, append-nil, append_assoc, arith}
 use Rattle.std.specs.Prelude.{IsTrue, sum_by}
-use Rattle.flow_term.specs.Trees.{term_size, term_depth}
+use Rattle.flow_term.specs.Trees.{term_size, term_depth, deepest}
 use Rattle.flow_term.specs.declared.term.Term.{Term}
 use Rattle.flow_term.specs.declared.term.Kind.{Kind}
 use Rattle.flow_term.specs.declared.term.Kind.TheVariants as kind
+use Rattle.quoted_text.specs.Escapes.{is_low_octal, is_octal}
+use Rattle.quoted_text.specs.Quotes.{IsInside, IsQuoted}
 use Rattle.aterm_text.specs.declared.class.ByteClass.TheVariants.{Blank}
 use Rattle.aterm_text.specs.declared.number.Number.{Number}
 use Rattle.aterm_text.specs.declared.open.Open.{Open}
@@ -13,12 +15,12 @@ use Rattle.aterm_text.specs.declared.open.Opener.TheVariants.{Call, Tuple, Items
 use Rattle.aterm_text.specs.declared.reader.state.Escape.{Escape}
 use Rattle.aterm_text.specs.declared.reader.state.Last.{Last}
 use Rattle.aterm_text.specs.declared.reader.state.Last.TheVariants as last
-use Rattle.aterm_text.specs.Bytes.{class_of, is_low_octal, is_octal}
-use Rattle.aterm_text.specs.Faults.{IsHead, AreFollowed, no_item, item, IsDue, opener_size, begun_in}
-use Rattle.aterm_text.specs.Grammar.{term, IsBlank, IsSymbol, IsInside, IsQuoted, IsDigits, number_of, sign_text, IsTerm, bare, annotated, IsBody, symbol, application, text, tuple, items, AreTerms, none, some, AreItems, single, further}
-use Rattle.aterm_text.specs.inner.Machine.{State, state, closed_as}
-use Rattle.aterm_text.specs.inner.Open.{closing_byte_of}
-use Rattle.aterm_text.proofs.Sizes.{deepest, parts_of, size_term, depth_term, parts_apply, parts_tuple, parts_items}
+use Rattle.aterm_text.specs.Bytes.{class_of}
+use Rattle.aterm_text.specs.Faults.{IsHead, AreFollowed, no_item, item, IsDue, begun_in}
+use Rattle.aterm_text.specs.Grammar.{term, IsBlank, IsSymbol, IsDigits, number_of, sign_text, IsTerm, annotated, IsBody, application, tuple, items, AreTerms, some, AreItems, single, further}
+use Rattle.aterm_text.specs.inner.Machine.{closed_as}
+use Rattle.aterm_text.specs.inner.Open.{closing_byte_of, with_item}
+use Rattle.aterm_text.proofs.Sizes.{parts_of, size_term, depth_term, parts_apply, parts_tuple, parts_items}
 use Rattle.aterm_text.proofs.Runs.{NumberIs}
 use Rattle.aterm_text.proofs.Complete.{body_size}
 
@@ -182,7 +184,7 @@ followed_items ts bytes (item us t inside spelling behind blank i s b k e f) res
     (followed_items us inside i (spelling ++ (behind ++ 44 ∷ (blank ++ rest))) (t ∷ others) last_ones))
 
 -- the items so far and one more
-pub with_last : (ts : List Term) (bytes : List ℕ) (t : Term) (spelling blank : List ℕ) → AreFollowed ts bytes → IsTerm spelling t → IsBlank blank → AreTerms (bytes ++ (spelling ++ blank)) (ts ++ t ∷ [])
+with_last : (ts : List Term) (bytes : List ℕ) (t : Term) (spelling blank : List ℕ) → AreFollowed ts bytes → IsTerm spelling t → IsBlank blank → AreTerms (bytes ++ (spelling ++ blank)) (ts ++ t ∷ [])
 with_last ts bytes t spelling blank h s b = some (followed_items ts bytes h (spelling ++ blank) (t ∷ []) (single [] spelling blank t tt s b refl refl))
 
 -- ** closing brackets
@@ -196,6 +198,20 @@ pub record Closes (o : Open) (below : List Open) (p : List ℕ) : Type 0 where
   pub is_head : IsHead o.opener head
   pub terms : AreTerms inside o.items
   pub whole : p ≡ front ++ (head ++ inside)
+
+-- likewise where one more term stands behind them
+pub closes_with : (o : Open) (below : List Open) (t : Term) (p : List ℕ) → Behind (λ s. IsTerm s t) (o ∷ below) p → Closes (with_item o t) below p
+closes_with o below t p b =
+    let s : IsDue (o ∷ below) b.front = b.due in
+    record {
+      front = s.0;
+      head = s.1;
+      inside = s.2 ++ (b.spelling ++ b.blank);
+      due = s.3;
+      is_head = s.4;
+      terms = with_last o.items s.2 t b.spelling b.blank s.5 b.spells b.blanks;
+      whole = b.whole ∙ ap (λ (xs : List ℕ). xs ++ (b.spelling ++ b.blank)) s.6 ∙ simp append_assoc;
+    }
 
 closed_behind : (R : List ℕ → Type 0) (o : Open) (below : List Open) (p : List ℕ) (c : ℕ) (h : Closes o below p) → R (h.head ++ (h.inside ++ c ∷ [])) → Behind R below (p ++ c ∷ [])
 closed_behind R o below p c h r = record {

@@ -1,6 +1,6 @@
 -- The written form of a term is a text of it.
-use Rattle.std.proofs.Common.{◌≡◌, ℕ, zero, suc, ◌+◌, ◌-◌, ◌*◌, ◌/◌, ◌%◌, ◌<◌, ◌≤◌, ◌^◌, Bool, true, false, List, [], ◌∷◌, ◌++◌, length, map, take, get_or, refl, sym, ap, ◌∙◌, subst, inl, inr, append-nil, append_assoc, add-one, arith, lit<}
-use Rattle.std.specs.Prelude.{ℤ, Some, Result, Ok, Err, OnOk, ◌⊎◌, ◌≢◌, ◌==◌, ◌||◌, ◌&&◌, not, IsTrue, IsUtf8, if◌then◌else◌, nat_lt, nat_le, sum_by}
+use Rattle.std.proofs.Common.{◌≡◌, ℕ, suc, ◌+◌, ◌<◌, Bool, true, false, List, [], ◌∷◌, ◌++◌, length, map, take, get_or, refl, sym, ap, ◌∙◌, subst, inl, inr, append-nil, append_assoc, add-one, arith, lit<}
+use Rattle.std.specs.Prelude.{ℤ, Result, Ok, Err, OnOk, ◌≢◌, ◌==◌, ◌&&◌, IsTrue, IsUtf8, if◌then◌else◌}
 use Rattle.std.specs.Fmt.{signed_decimal}
 use Rattle.std.specs.List.{AllByRecursion, flat_map, list_all}
 use Rattle.std.proofs.Math.Seq.{take-suc}
@@ -8,91 +8,19 @@ use Rattle.std.proofs.lemmas.Bool.Decides.{nat_tests}
 use Rattle.std.proofs.lemmas.Grind.{flat_map-append}
 use Rattle.std.proofs.lemmas.List.{map-append, length-map, length-take-le}
 use Rattle.std.proofs.lemmas.Str.{IsUtf8-nil, IsUtf8-append}
-use Rattle.flow_term.specs.Trees.{term_size, term_depth}
-use Rattle.flow_term.specs.declared.term.Term.{Term, Term-F, out-Term, roll-Term, roll-out-Term, fold_out-Term}
-use Rattle.flow_term.specs.declared.term.Kind.{Kind, Kind-F, out-Kind, fold_out-Kind, map-Kind}
+use Rattle.flow_term.specs.declared.term.Term.{Term, Term-F, out-Term, roll-out-Term, fold_out-Term}
+use Rattle.flow_term.specs.declared.term.Kind.{Kind, Kind-F, fold_out-Kind, map-Kind}
 use Rattle.flow_term.specs.declared.term.Kind.TheVariants as kind
 use Rattle.flow_term.specs.declared.term.Kind.TheVariants.{outs-Apply, outs-Items, outs-Int, outs-Str, outs-Tuple}
+use Rattle.quoted_text.proofs.Cuts.{before_text, with_byte}
+use Rattle.quoted_text.specs.Spellings.{quoted}
+use Rattle.quoted_text.proofs.Spelled.{quoted_is, quoted_utf8}
 use Rattle.aterm_text.specs.declared.class.ByteClass.{ByteClass}
 use Rattle.aterm_text.specs.declared.class.ByteClass.TheVariants.{Letter}
-use Rattle.aterm_text.specs.Bytes.{class_of, is_in_symbol, is_plain, is_octal, octal_value, short_escape}
-use Rattle.aterm_text.specs.Grammar.{term, IsBlank, IsSymbol, IsEscape, short, octal, IsPiece, IsInside, IsQuoted, IsName, IsI64, IsTerm, bare, annotated, IsBody, symbol, application, text, tuple, items, number, AreTerms, none, some, AreItems, single, further, IsText, TermText}
-use Rattle.aterm_text.specs.Written.{octal_escape, byte_text, quoted, is_letter_class, may_go_on, is_symbol, name_text, separator, behind_comma, listed, bracketed, annotations_text, body_text, kind_written, written, ReadsBack, KindReadsBack}
-use Rattle.aterm_text.proofs.Classes.{same_byte, letter_ascii, is_byte_of}
-use Rattle.aterm_text.proofs.Digits.{before_text, decimal_numeral, decimal_utf8}
-use Rattle.aterm_text.proofs.Lives.{with_byte}
-use Rattle.aterm_text.proofs.Utf8.{utf8_before, utf8_behind}
-
--- ** texts between quotes
-
-octal_parts : (c : ℕ) → c < 128 → (48 + c / 64 ≤ 49) × (48 + c / 8 % 8 ≤ 55) × (48 + c % 8 ≤ 55) × (octal_value (48 + c / 64) (48 + c / 8 % 8) (48 + c % 8) ≡ c)
-octal_parts c h = (omega arith, omega arith, omega arith, omega arith)
-
-octal_between : (c : ℕ) → 48 ≤ c → c ≤ 55 → is_octal c ≡ true
-octal_between c h k = grind (arith, nat_tests)
-
-octal_piece : (c : ℕ) → c < 128 → IsEscape (octal_escape c) c
-octal_piece c h =
-    let p : (48 + c / 64 ≤ 49) × (48 + c / 8 % 8 ≤ 55) × (48 + c % 8 ≤ 55) × (octal_value (48 + c / 64) (48 + c / 8 % 8) (48 + c % 8) ≡ c) = octal_parts c h in
-    octal (48 + c / 64) (48 + c / 8 % 8) (48 + c % 8) (octal_between (48 + c / 64) (omega arith) (omega (arith, p.0))) (octal_between (48 + c / 8 % 8) (omega arith) p.1) (octal_between (48 + c % 8) (omega arith) p.2) (sym p.3) h refl
-
-control : (c : ℕ) → (nat_lt c 32 || c == 127) ≡ true → c < 128
-control c h = grind (arith, nat_tests)
-
--- a byte is written as a piece of itself; as itself, or it is ASCII
-record Piece (c : ℕ) (bytes : List ℕ) : Type 0 where
-  piece : IsPiece bytes c
-  sort : (bytes ≡ c ∷ []) ⊎ ((c < 128) × IsUtf8 bytes)
-
-chosen_piece : (x : Bool) (a b : List ℕ) (c : ℕ) → (x ≡ true → Piece c a) → (x ≡ false → Piece c b) → Piece c (if x then a else b)
-chosen_piece true a b c h k = h refl
-chosen_piece false a b c h k = k refl
-
-short_piece : (c d : ℕ) → short_escape d ≡ Some c → d < 128 → c < 128 → Piece c (92 ∷ d ∷ [])
-short_piece c d h ascii small = record { piece = inr (short d h refl); sort = inr (small, before_text 92 (d ∷ []) (lit< tt) (before_text d [] ascii IsUtf8-nil)) }
-
-short_at : (c n d : ℕ) → c ≡ n → short_escape d ≡ Some n → d < 128 → n < 128 → Piece c (92 ∷ d ∷ [])
-short_at c n d e h ascii small = subst (λ (m : ℕ). Piece m (92 ∷ d ∷ [])) (sym e) (short_piece n d h ascii small)
-
-octal_utf8 : (c : ℕ) → c < 128 → IsUtf8 (octal_escape c)
-octal_utf8 c h =
-    let p : (48 + c / 64 ≤ 49) × (48 + c / 8 % 8 ≤ 55) × (48 + c % 8 ≤ 55) × (octal_value (48 + c / 64) (48 + c / 8 % 8) (48 + c % 8) ≡ c) = octal_parts c h in
-    before_text 92 ((48 + c / 64) ∷ (48 + c / 8 % 8) ∷ (48 + c % 8) ∷ []) (lit< tt)
-    (before_text (48 + c / 64) ((48 + c / 8 % 8) ∷ (48 + c % 8) ∷ []) (omega (arith, p.0)) (before_text (48 + c / 8 % 8) ((48 + c % 8) ∷ []) (omega (arith, p.1)) (before_text (48 + c % 8) [] (omega (arith, p.2)) IsUtf8-nil)))
-
-plain_both : (c : ℕ) → (c == 34) ≡ false → (c == 92) ≡ false → IsTrue (is_plain c)
-plain_both c h k = rw (h, k) refl
-
-byte_piece : (c : ℕ) → Piece c (byte_text c)
-byte_piece c =
-    chosen_piece (c == 34) _ _ c (λ e. short_at c 34 34 (same_byte c 34 e) refl (lit< tt) (lit< tt)) (λ no_quote.
-    chosen_piece (c == 92) _ _ c (λ e. short_at c 92 92 (same_byte c 92 e) refl (lit< tt) (lit< tt)) (λ no_backslash.
-    chosen_piece (c == 10) _ _ c (λ e. short_at c 10 110 (same_byte c 10 e) refl (lit< tt) (lit< tt)) (λ _.
-    chosen_piece (c == 9) _ _ c (λ e. short_at c 9 116 (same_byte c 9 e) refl (lit< tt) (lit< tt)) (λ _.
-    chosen_piece (c == 13) _ _ c (λ e. short_at c 13 114 (same_byte c 13 e) refl (lit< tt) (lit< tt)) (λ _.
-    chosen_piece (nat_lt c 32 || c == 127) _ _ c
-    (λ e. let small : c < 128 = control c e in record { piece = inr (octal_piece c small); sort = inr (small, octal_utf8 c small) })
-    (λ _. record { piece = inl (refl, plain_both c no_quote no_backslash); sort = inl refl }))))))
-
-text_inside : (chars : List ℕ) → IsInside (flat_map byte_text chars) chars
-text_inside [] = refl
-text_inside (c ∷ chars) = (byte_text c, flat_map byte_text chars, (byte_piece c).piece, text_inside chars, refl)
-
-pub quoted_is : (chars : List ℕ) → IsQuoted (quoted chars) chars
-quoted_is chars = (flat_map byte_text chars, text_inside chars, refl)
-
-piece_utf8 : (before bytes chars : List ℕ) (c : ℕ) (rest : List ℕ) → (bytes ≡ c ∷ []) ⊎ ((c < 128) × IsUtf8 bytes) → IsUtf8 (before ++ c ∷ chars) → ((front : List ℕ) → IsUtf8 (front ++ chars) → IsUtf8 (front ++ rest)) → IsUtf8 (before ++ (bytes ++ rest))
-piece_utf8 before bytes chars c rest (inl e) u later =
-    subst (λ (xs : List ℕ). IsUtf8 (before ++ (xs ++ rest))) (sym e) (subst IsUtf8 (append_assoc before (c ∷ []) rest) (later (before ++ c ∷ []) (subst IsUtf8 (sym (append_assoc before (c ∷ []) chars)) u)))
-piece_utf8 before bytes chars c rest (inr h) u later =
-    IsUtf8-append before (bytes ++ rest) (utf8_before before chars c h.0 u) (IsUtf8-append bytes rest h.1 (later [] (utf8_behind before chars c h.0 u)))
-
-written_utf8 : (chars before : List ℕ) → IsUtf8 (before ++ chars) → IsUtf8 (before ++ flat_map byte_text chars)
-written_utf8 [] before u = u
-written_utf8 (c ∷ chars) before u = piece_utf8 before (byte_text c) chars c (flat_map byte_text chars) (byte_piece c).sort u (λ front w. written_utf8 chars front w)
-
-pub quoted_utf8 : (chars : List ℕ) → IsUtf8 chars → IsUtf8 (quoted chars)
-quoted_utf8 chars u = before_text 34 (flat_map byte_text chars ++ 34 ∷ []) (lit< tt) (with_byte (flat_map byte_text chars) 34 (lit< tt) (written_utf8 chars [] u))
+use Rattle.aterm_text.specs.Bytes.{class_of, is_in_symbol}
+use Rattle.aterm_text.specs.Grammar.{term, IsSymbol, IsName, IsI64, IsTerm, bare, annotated, IsBody, application, text, tuple, items, number, AreTerms, none, some, AreItems, single, further}
+use Rattle.aterm_text.specs.Written.{is_letter_class, may_go_on, is_symbol, name_text, separator, behind_comma, listed, bracketed, annotations_text, body_text, kind_written, written, ReadsBack, KindReadsBack}
+use Rattle.aterm_text.proofs.Digits.{decimal_numeral, decimal_utf8}
 
 -- ** names
 
@@ -117,7 +45,7 @@ pub record NameIs (bytes name : List ℕ) : Type 0 where
   pub is_name : IsName bytes name
   pub utf8 : IsUtf8 bytes
 
-name_chosen : (x : Bool) (name : List ℕ) → is_symbol name ≡ x → IsUtf8 name → NameIs (if x then name else quoted name) name
+name_chosen : (x : Bool) (name : List ℕ) → is_symbol name ≡ x → IsUtf8 name → NameIs (if x then name else quoted 34 name) name
 name_chosen true name e u = record { is_name = inl (symbol_is name e, refl); utf8 = u }
 name_chosen false name e u = record { is_name = inr (quoted_is name); utf8 = quoted_utf8 name u }
 
@@ -171,7 +99,7 @@ items_are ts = fold_out-Kind (List ℕ) (List ℕ) body_text term_step (kind.Ite
 int_written : (n : ℤ) → kind_written (kind.Int n) ≡ signed_decimal n
 int_written n = fold_out-Kind (List ℕ) (List ℕ) body_text term_step (kind.Int n) ∙ ap (λ (x : Kind-F Kind Term). body_text (map-Kind Kind Term (List ℕ) (List ℕ) kind_written written x)) (outs-Int n)
 
-text_written : (chars : List ℕ) → kind_written (kind.Str chars) ≡ quoted chars
+text_written : (chars : List ℕ) → kind_written (kind.Str chars) ≡ quoted 34 chars
 text_written chars = fold_out-Kind (List ℕ) (List ℕ) body_text term_step (kind.Str chars) ∙ ap (λ (x : Kind-F Kind Term). body_text (map-Kind Kind Term (List ℕ) (List ℕ) kind_written written x)) (outs-Str chars)
 
 record As (bytes : List ℕ) (k : Kind) : Type 0 where
@@ -199,7 +127,7 @@ pub int_back : (n : ℤ) → IsI64 n → KindReadsBack (kind.Int n)
 int_back n h = as_written (signed_decimal n) (kind.Int n) (int_written n) (record { spells = number n (decimal_numeral n h) h refl; utf8 = decimal_utf8 n h })
 
 pub text_back : (chars : List ℕ) → IsUtf8 chars → KindReadsBack (kind.Str chars)
-text_back chars u = as_written (quoted chars) (kind.Str chars) (text_written chars) (record { spells = text chars (quoted_is chars) refl; utf8 = quoted_utf8 chars u })
+text_back chars u = as_written (quoted 34 chars) (kind.Str chars) (text_written chars) (record { spells = text chars (quoted_is chars) refl; utf8 = quoted_utf8 chars u })
 
 -- ** terms
 
@@ -256,15 +184,6 @@ texts_more ts i d start old mid new h e f g =
     ∙ ap (λ (xs : List ℕ). start ++ xs) (sym (listed_more (map written (take i ts)) (written (get_or ts i d))))
     ∙ ap (λ (xs : List (List ℕ)). start ++ listed xs) (sym (map-append written (take i ts) (get_or ts i d ∷ [])))
     ∙ ap (λ (xs : List Term). start ++ listed (map written xs)) (sym (ap (λ (n : ℕ). take n ts) (add-one i) ∙ take-suc ts i d h))
-
--- ** the whole text
-
-pub text_of_term : (t : Term) → ReadsBack t → term_depth t ≤ 512 → term_size t ≤ 2 ^ 20 → TermText (written t) t
-text_of_term t h shallow small = record {
-  is_text = record { utf8 = h.utf8; before = []; spelling = written t; behind = []; blank_before = tt; spells = h.spells; blank_behind = tt; whole = sym (append-nil (written t)) };
-  shallow = shallow;
-  small = small;
-}
 
 -- ** what the writer's calls give
 

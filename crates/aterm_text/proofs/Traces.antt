@@ -1,27 +1,26 @@
 -- What a whole run stands for: the state it ends in, or the place where it stops.
-use Rattle.std.proofs.Common.{◌≡◌, ℕ, ◌+◌, ◌<◌, ◌≤◌, ◌^◌, Bool, true, false, List, [], ◌∷◌, ◌++◌, length, Option, Some, None, Result, Ok, Err, refl, sym, ap, ◌∙◌, subst, inl, inr, append-nil, append_assoc, length-append, arith}
+use Rattle.std.proofs.Common.{◌≡◌, ℕ, ◌+◌, ◌<◌, Bool, true, false, List, [], ◌∷◌, ◌++◌, length, Option, Some, None, Result, Ok, Err, refl, sym, ap, ◌∙◌, subst, inl, inr, append-nil, append_assoc, length-append, arith}
 use Rattle.std.specs.Prelude.{ℤ, ◌⊎◌, ◌==◌, IsUtf8, if◌then◌else◌, option_map}
 use Rattle.std.proofs.lemmas.Option.{same_Some}
 use Rattle.std.proofs.lemmas.Str.{IsUtf8-nil}
-use Rattle.flow_term.specs.Trees.{term_size, term_depth}
+use Rattle.flow_term.specs.Trees.{term_size}
 use Rattle.flow_term.specs.declared.term.Term.{Term}
-use Rattle.flow_term.specs.declared.term.Kind.{Kind}
 use Rattle.flow_term.specs.declared.term.Kind.TheVariants as kind
+use Rattle.quoted_text.proofs.Cuts.{with_byte, utf8_before}
 use Rattle.aterm_text.specs.declared.open.Open.{Open}
 use Rattle.aterm_text.specs.declared.reader.state.Last.{Last}
 use Rattle.aterm_text.specs.declared.reader.state.Last.TheVariants as last
 use Rattle.aterm_text.specs.declared.refusal.TermFaultKind.{TermFaultKind}
 use Rattle.aterm_text.specs.Bytes.{class_of}
 use Rattle.aterm_text.specs.Grammar.{term, IsText, TermText}
-use Rattle.aterm_text.specs.inner.Machine.{State, state, Next, in_quotes, step_by, step, run, ended_number, ended, outermost, finish, nothing, reading, ◌>>=◌}
+use Rattle.aterm_text.specs.inner.Machine.{State, state, Next, step_by, step, run, ended_number, ended, outermost, finish, nothing, reading, ◌>>=◌}
 use Rattle.aterm_text.specs.Numbers.{integer_of}
-use Rattle.aterm_text.proofs.Runs.{bound_ok, CanBegin, run_on, skip_before, skip_all, SkipsAll, body_of, whole_of, IsWhole, blank_whole}
+use Rattle.aterm_text.proofs.Runs.{bound_ok, run_on, skip_before, skip_all, SkipsAll, IsWhole, blank_whole}
 use Rattle.aterm_text.proofs.Complete.{Room, Reads, reads_term}
-use Rattle.aterm_text.proofs.Spelled.{Behind, Fits, Means}
+use Rattle.aterm_text.proofs.Spelled.{Means}
 use Rattle.aterm_text.proofs.Sound.{Stops, MeansNext, step_means}
-use Rattle.aterm_text.proofs.Ends.{Ends, Whole, MeansEnd, end_means}
-use Rattle.aterm_text.proofs.Lives.{with_byte}
-use Rattle.aterm_text.proofs.Utf8.{utf8_before, IsOutside, NextOutside, outside_ascii}
+use Rattle.aterm_text.proofs.Ends.{Whole, MeansEnd, end_means}
+use Rattle.aterm_text.proofs.Utf8.{IsOutside, NextOutside, outside_ascii}
 
 abbrev pub MeansState : State → List ℕ → Type 0
 MeansState (state stack begun l) p = Means stack begun l p

@@ -1,5 +1,5 @@
--- What a byte is in a term text, outside of quotes and inside.
-use Rattle.std.specs.Prelude.{ℕ, ◌+◌, ◌-◌, ◌*◌, Bool, true, false, not, ◌==◌, ◌&&◌, ◌||◌, nat_le, Option, Some, None, if◌then◌else◌}
+-- What a byte is in a term text, outside of quotes.
+use Rattle.std.specs.Prelude.{ℕ, Bool, true, false, ◌==◌, ◌&&◌, ◌||◌, nat_le, if◌then◌else◌}
 use Rattle.aterm_text.specs.declared.class.ByteClass.{ByteClass}
 use Rattle.aterm_text.specs.declared.class.ByteClass.TheVariants.{Letter, Digit, Minus, Sign, Blank, Quote, Comma, Parenthesis, Bracket, Brace, Closing, Exclamation, Less, Other}
 use Rattle.aterm_text.specs.declared.refusal.TermFaultKind.{TermFaultKind}
@@ -54,28 +54,3 @@ misplaced _ = Unexpected
 -- what makes a number before it a real: `.`, `e`, `E`
 abbrev pub is_real_mark : ℕ → Bool
 is_real_mark c = c == 46 || c == 101 || c == 69
-
--- what stands for itself inside quotes: all but `"` and `\`
-abbrev pub is_plain : ℕ → Bool
-is_plain c = not (c == 34) && not (c == 92)
-
--- what one byte behind a backslash stands for: `"`, `\`, and `n`, `t` and `r`
-abbrev pub short_escape : ℕ → Option ℕ
-short_escape c =
-    if c == 34 then Some 34 else (
-    if c == 92 then Some 92 else (
-    if c == 110 then Some 10 else (
-    if c == 116 then Some 9 else (
-    if c == 114 then Some 13 else None))))
-
--- `0` to `7`
-abbrev pub is_octal : ℕ → Bool
-is_octal c = nat_le 48 c && nat_le c 55
-
--- `0` and `1`, with which the octal digits of a value below 128 begin
-abbrev pub is_low_octal : ℕ → Bool
-is_low_octal c = nat_le 48 c && nat_le c 49
-
--- the number that three octal digits write
-abbrev pub octal_value : ℕ → ℕ → ℕ → ℕ
-octal_value a b c = ((a - 48) * 8 + (b - 48)) * 8 + (c - 48)

@@ -4,6 +4,8 @@ use Rattle.std.specs.Str.{IsValidUpTo}
 use Rattle.flow_term.specs.Trees.{parts, term_size}
 use Rattle.flow_term.specs.declared.term.Term.{Term}
 use Rattle.flow_term.specs.declared.term.Kind.{out-Kind}
+use Rattle.quoted_text.specs.Escapes.{IsEscape}
+use Rattle.quoted_text.specs.Quotes.{IsInside}
 use Rattle.aterm_text.specs.declared.class.ByteClass.{ByteClass}
 use Rattle.aterm_text.specs.declared.class.ByteClass.TheVariants.{Digit}
 use Rattle.aterm_text.specs.declared.open.Open.{Open}
@@ -12,7 +14,7 @@ use Rattle.aterm_text.specs.declared.open.Opener.TheVariants.{Call, Tuple, Items
 use Rattle.aterm_text.specs.declared.refusal.TermFaultKind.{TermFaultKind}
 use Rattle.aterm_text.specs.declared.refusal.TermFaultKind.TheVariants.{NotUtf8, Unexpected, Shared, Placeholder, Real, Blob, BadEscape, IntRange, TooDeep, TooMany}
 use Rattle.aterm_text.specs.Bytes.{class_of, is_real_mark, begins_term}
-use Rattle.aterm_text.specs.Grammar.{IsBlank, IsName, IsInside, IsEscape, IsNumeral, IsI64, IsTerm, IsBody, IsText}
+use Rattle.aterm_text.specs.Grammar.{IsBlank, IsName, IsNumeral, IsI64, IsTerm, IsBody, IsText}
 
 -- Some text begins with these bytes, however deep and large its term is.
 pub record Begins (bytes : List ℕ) : Type 0 where

@@ -1,13 +1,14 @@
 -- The profile of ATerm texts: which bytes are a text of which term.
-use Rattle.std.specs.Prelude.{◌≡◌, ℕ, zero, suc, ℤ, pos, negsuc, ◌-◌, ◌<◌, ◌≤◌, ◌^◌, ◌⊎◌, Bool, true, false, IsTrue, IsUtf8, Some, List, [], ◌∷◌, ◌++◌, length, map}
+use Rattle.std.specs.Prelude.{◌≡◌, ℕ, zero, suc, ℤ, pos, negsuc, ◌-◌, ◌<◌, ◌≤◌, ◌^◌, ◌⊎◌, Bool, true, false, IsTrue, IsUtf8, List, [], ◌∷◌, ◌++◌, length, map}
 use Rattle.std.specs.List.{AllByRecursion}
 use Rattle.std.specs.Int.Digits.{number_from_digits}
 use Rattle.flow_term.specs.Trees.{term_size, term_depth}
 use Rattle.flow_term.specs.declared.term.Term.{Term, roll-Term}
 use Rattle.flow_term.specs.declared.term.Kind.{Kind}
 use Rattle.flow_term.specs.declared.term.Kind.TheVariants as kind
+use Rattle.quoted_text.specs.Quotes.{IsQuoted}
 use Rattle.aterm_text.specs.declared.class.ByteClass.TheVariants.{Letter, Digit, Blank}
-use Rattle.aterm_text.specs.Bytes.{class_of, is_in_symbol, is_plain, is_octal, octal_value, short_escape}
+use Rattle.aterm_text.specs.Bytes.{class_of, is_in_symbol}
 
 -- a term of its kind and its annotations
 abbrev pub term : Kind → List Term → Term
@@ -21,25 +22,6 @@ IsBlank bytes = AllByRecursion (λ c. class_of c ≡ Blank) bytes
 abbrev pub IsSymbol : List ℕ → Type 0
 IsSymbol [] = ⊥
 IsSymbol (c ∷ cs) = (class_of c ≡ Letter) × AllByRecursion (λ d. IsTrue (is_in_symbol (class_of d))) cs
-
--- an escape, and the byte that it stands for: a backslash and one byte, or a backslash and three octal digits with a value below 128
-pub data IsEscape : List ℕ → ℕ → Type 0 where
-  short : {bytes : List ℕ} {value : ℕ} (c : ℕ) → short_escape c ≡ Some value → bytes ≡ 92 ∷ c ∷ [] → IsEscape bytes value
-  octal : {bytes : List ℕ} {value : ℕ} (a b c : ℕ) → IsTrue (is_octal a) → IsTrue (is_octal b) → IsTrue (is_octal c) → value ≡ octal_value a b c → value < 128
-      → bytes ≡ 92 ∷ a ∷ b ∷ c ∷ [] → IsEscape bytes value
-
--- what stands for one byte inside quotes: the byte itself, where it is neither `"` nor `\`, or an escape
-abbrev pub IsPiece : List ℕ → ℕ → Type 0
-IsPiece bytes value = ((bytes ≡ value ∷ []) × IsTrue (is_plain value)) ⊎ IsEscape bytes value
-
--- what stands between quotes for a text
-abbrev pub IsInside : List ℕ → List ℕ → Type 0
-IsInside bytes [] = bytes ≡ []
-IsInside bytes (c ∷ text) = (piece rest : List ℕ) × IsPiece piece c × IsInside rest text × (bytes ≡ piece ++ rest)
-
--- a text between quotes
-abbrev pub IsQuoted : List ℕ → List ℕ → Type 0
-IsQuoted bytes text = (inside : List ℕ) × IsInside inside text × (bytes ≡ 34 ∷ (inside ++ 34 ∷ []))
 
 -- a name: itself, where it is a symbol, or between quotes
 abbrev pub IsName : List ℕ → List ℕ → Type 0

@@ -1,33 +1,15 @@
 -- The one written form of a term.
-use Rattle.std.specs.Prelude.{ℕ, ◌+◌, ◌-◌, ◌/◌, ◌%◌, Bool, true, false, ◌==◌, ◌&&◌, ◌||◌, nat_lt, List, [], ◌∷◌, ◌++◌, IsUtf8, if◌then◌else◌}
+use Rattle.std.specs.Prelude.{ℕ, Bool, true, false, ◌==◌, ◌&&◌, List, [], ◌∷◌, ◌++◌, IsUtf8, if◌then◌else◌}
 use Rattle.std.specs.Fmt.{signed_decimal}
 use Rattle.std.specs.List.{flat_map, list_all}
 use Rattle.flow_term.specs.declared.term.Term.{Term, Term-F, fold-Term}
 use Rattle.flow_term.specs.declared.term.Kind.{Kind, fold-Kind}
 use Rattle.flow_term.specs.declared.term.Kind.TheOpen.{Kind-F}
+use Rattle.quoted_text.specs.Spellings.{quoted}
 use Rattle.aterm_text.specs.declared.class.ByteClass.{ByteClass}
 use Rattle.aterm_text.specs.declared.class.ByteClass.TheVariants.{Letter}
 use Rattle.aterm_text.specs.Bytes.{class_of, is_in_symbol}
 use Rattle.aterm_text.specs.Grammar.{IsTerm, IsBody}
-
--- a backslash and three octal digits
-abbrev pub octal_escape : ℕ → List ℕ
-octal_escape c = 92 ∷ (48 + c / 64) ∷ (48 + c / 8 % 8) ∷ (48 + c % 8) ∷ []
-
--- one byte inside quotes: `"`, `\`, line feed, tab and carriage return by their short escapes, other bytes below 32 and 127 by octal
--- digits, and any other as it is
-abbrev pub byte_text : ℕ → List ℕ
-byte_text c =
-    if c == 34 then 92 ∷ 34 ∷ [] else (
-    if c == 92 then 92 ∷ 92 ∷ [] else (
-    if c == 10 then 92 ∷ 110 ∷ [] else (
-    if c == 9 then 92 ∷ 116 ∷ [] else (
-    if c == 13 then 92 ∷ 114 ∷ [] else (
-    if nat_lt c 32 || c == 127 then octal_escape c else c ∷ [])))))
-
--- between quotes
-abbrev pub quoted : List ℕ → List ℕ
-quoted text = 34 ∷ (flat_map byte_text text ++ 34 ∷ [])
 
 -- a letter or `_`, and then letters, `_`, digits and signs
 abbrev pub is_letter_class : ByteClass → Bool
@@ -43,7 +25,7 @@ is_symbol (c ∷ cs) = is_letter_class (class_of c) && list_all may_go_on cs
 
 -- a name: plainly where it is a symbol, and else between quotes
 abbrev pub name_text : List ℕ → List ℕ
-name_text name = if is_symbol name then name else quoted name
+name_text name = if is_symbol name then name else quoted 34 name
 
 -- what stands before an item with so many before it
 abbrev pub separator : ℕ → List ℕ
@@ -72,7 +54,7 @@ body_text (Kind-F.Apply name args) = name_text name ++ bracketed 40 args 41
 body_text (Kind-F.Tuple terms) = bracketed 40 terms 41
 body_text (Kind-F.Items terms) = bracketed 91 terms 93
 body_text (Kind-F.Int n) = signed_decimal n
-body_text (Kind-F.Str text) = quoted text
+body_text (Kind-F.Str text) = quoted 34 text
 
 -- a kind, and a term
 abbrev term_text : Term-F (List ℕ) (List ℕ) → List ℕ

@@ -98,3 +98,25 @@ impl ByteClass {
         }
     }
 }
+
+/// The next byte of the text: its offset, and what it is outside of quotes.
+#[derive(Clone, Copy)]
+pub struct NextByte {
+    pub at: u64,
+    pub byte: u8,
+    pub class: ByteClass,
+}
+
+impl NextByte {
+    pub fn new(at: u64, byte: u8) -> NextByte
+        ensures place { result.at ≡ at }
+        ensures byte { result.byte ≡ byte }
+        ensures class { result.class ≡ class_of byte }
+    {
+        NextByte {
+            at,
+            byte,
+            class: ByteClass::of(byte),
+        }
+    }
+}

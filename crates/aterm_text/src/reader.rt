@@ -10,7 +10,7 @@ mod quotes;
 pub mod state;
 mod terms;
 
-use crate::class::ByteClass;
+use crate::class::NextByte;
 use crate::refusal::{TermFaultKind, TermRefusal};
 use flow_term::Term;
 use state::{Last, Reader};
@@ -51,21 +51,21 @@ impl Reader {
         ensures { Answers result (step true (state_of self) at byte) }
     {
         let Reader { levels, last } = self;
-        let class = ByteClass::of(byte);
+        let next = NextByte::new(at, byte);
         match last {
-            Last::Start => terms::at_start(alloc, levels, at, byte, class),
-            Last::Opening => terms::at_opening(alloc, levels, at, byte, class),
-            Last::Symbol(name) => atoms::in_symbol(alloc, levels, name, at, byte, class),
-            Last::Name(name) => atoms::after_name(alloc, levels, name, at, byte, class),
+            Last::Start => terms::at_start(alloc, levels, next),
+            Last::Opening => terms::at_opening(alloc, levels, next),
+            Last::Symbol(name) => atoms::in_symbol(alloc, levels, name, next),
+            Last::Name(name) => atoms::after_name(alloc, levels, name, next),
             Last::Inside(chars) => quotes::in_quotes(levels, chars, at, byte),
             Last::Backslash(escape) => quotes::in_escape(levels, escape, byte),
             Last::OneOctal(escape, value) => quotes::in_one_octal(levels, escape, value, byte),
             Last::TwoOctals(escape, value) => quotes::in_two_octals(levels, escape, value, byte),
-            Last::Quoted(chars) => quotes::after_quotes(alloc, levels, chars, at, byte, class),
-            Last::Minus(start) => atoms::after_minus(levels, start, at, byte, class),
-            Last::Number(number) => atoms::in_number(alloc, levels, number, at, byte, class),
-            Last::Body(kind) => terms::after_body(alloc, levels, kind, at, byte, class),
-            Last::Whole(term) => terms::after(levels, term, at, byte, class),
+            Last::Quoted(chars) => quotes::after_quotes(alloc, levels, chars, next),
+            Last::Minus(start) => atoms::after_minus(levels, start, next),
+            Last::Number(number) => atoms::in_number(alloc, levels, number, next),
+            Last::Body(kind) => terms::after_body(alloc, levels, kind, next),
+            Last::Whole(term) => terms::after(levels, term, next),
         }
     }
 }

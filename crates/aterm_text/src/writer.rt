@@ -3,12 +3,14 @@ ghost use Rattle.std.specs.Prelude.{◌≡◌, ◌≤◌, ◌^◌, ◌++◌, map
 ghost use Rattle.std.specs.Fmt.{signed_decimal};
 ghost use Rattle.std.specs.List.{AllByRecursion, flat_map, list_all};
 ghost use Rattle.flow_term.specs.Trees.{term_depth, term_size};
+ghost use Rattle.quoted_text.specs.Spellings.{quoted};
 ghost use Rattle.aterm_text.specs.Grammar.{IsI64, TermText};
-ghost use Rattle.aterm_text.specs.Written.{KindReadsBack, ReadsBack, bracketed, byte_text, is_symbol, kind_written, may_go_on, name_text, octal_escape, quoted, separator, written};
+ghost use Rattle.aterm_text.specs.Written.{KindReadsBack, ReadsBack, bracketed, is_symbol, kind_written, may_go_on, name_text, separator, written};
 
 use crate::class::ByteClass;
 use flow_term::{Kind, List, Term, Text};
 use itoa::Buffer;
+use quoted_text::push_quoted;
 use std::alloc::{AllocError, Global};
 
 /// The text of a term: no blanks, each application with its parentheses, and a name between quotes only where it isn't a symbol.
@@ -92,10 +94,10 @@ fn push_number(bytes: &mut Vec<u8>, number: &i64) -> Result<(), AllocError>
 }
 
 fn push_text(bytes: &mut Vec<u8>, text: &Text) -> Result<(), AllocError>
-    ensures written { OnOk result (bytes.new.items ≡ bytes.old.items ++ quoted text.now) }
+    ensures written { OnOk result (bytes.new.items ≡ bytes.old.items ++ quoted 34 text.now) }
     ensures utf8 { IsUtf8 text.now }
 {
-    push_quoted(bytes, bytes_of(text))
+    push_quoted(bytes, b'"', bytes_of(text))
 }
 
 fn push_name(bytes: &mut Vec<u8>, name: &Text) -> Result<(), AllocError>
@@ -106,7 +108,7 @@ fn push_name(bytes: &mut Vec<u8>, name: &Text) -> Result<(), AllocError>
     if is_symbol(plain) {
         return bytes.extend_from_slice(plain);
     }
-    push_quoted(bytes, plain)
+    push_quoted(bytes, b'"', plain)
 }
 
 fn bytes_of(text: &Text) -> &[u8]
@@ -131,42 +133,4 @@ fn may_all_go_on(bytes: &[u8]) -> bool
     ensures { result ≡ list_all may_go_on bytes.now }
 {
     bytes.iter().all(|byte| ByteClass::of(*byte).is_in_symbol())
-}
-
-fn push_quoted(bytes: &mut Vec<u8>, text: &[u8]) -> Result<(), AllocError>
-    ensures { OnOk result (bytes.new.items ≡ bytes.old.items ++ quoted text.now) }
-{
-    bytes.push(b'"')?;
-    for byte in text {
-        push_byte(bytes, *byte)?;
-    }
-    bytes.push(b'"')?;
-    Ok(())
-}
-
-/// Adds one byte of a text between quotes.
-fn push_byte(bytes: &mut Vec<u8>, byte: u8) -> Result<(), AllocError>
-    ensures { OnOk result (bytes.new.items ≡ bytes.old.items ++ byte_text byte) }
-{
-    match byte {
-        b'"' => bytes.extend_from_slice(b"\\\""),
-        b'\\' => bytes.extend_from_slice(b"\\\\"),
-        b'\n' => bytes.extend_from_slice(b"\\n"),
-        b'\t' => bytes.extend_from_slice(b"\\t"),
-        b'\r' => bytes.extend_from_slice(b"\\r"),
-        0..=31 | 127 => push_octal(bytes, byte),
-        _ => Ok(bytes.push(byte)?),
-    }
-}
-
-fn push_octal(bytes: &mut Vec<u8>, byte: u8) -> Result<(), AllocError>
-    ensures { OnOk result (bytes.new.items ≡ bytes.old.items ++ octal_escape byte) }
-{
-    let digits = [
-        b'\\',
-        b'0' + byte / 64,
-        b'0' + byte / 8 % 8,
-        b'0' + byte % 8,
-    ];
-    bytes.extend_from_slice(&digits)
 }

@@ -1,5 +1,5 @@
 -- The types of expressions, listed in turn.
-use Rattle.std.proofs.Common.{◌≡◌, ℕ, ◌+◌, ◌-◌, ◌≤◌, List, [], ◌∷◌, ◌++◌, length, take, drop, sym, ap, subst, ◌∙◌, append_assoc, arith}
+use Rattle.std.proofs.Common.{◌≡◌, ℕ, ◌+◌, ◌-◌, List, [], ◌∷◌, ◌++◌, length, take, drop, sym, ap, subst, ◌∙◌, append_assoc, arith}
 use Rattle.std.proofs.lemmas.List.{append-nil, length-append}
 use Rattle.std.proofs.Math.ListN.{set}
 use Rattle.std.proofs.Math.Seq.{drop-append_seam, set-append_seam, take-append_seam}
@@ -23,13 +23,6 @@ turned os fs ps =
 
     counted : length (os ++ fs) - length os ≡ length fs
     counted = ap (λ n. n - length os) (length-append os fs) ∙ less (length os) (length fs)
-
--- a list that is longer by some items
-pub longer : (os ts ns : List Typing) → ns ≡ os ++ ts → length os ≤ length ns
-longer os ts ns is = subst (λ n. length os ≤ n) (sym (ap length is ∙ length-append os ts)) (least (length os) (length ts))
-  where
-    least : (m n : ℕ) → m ≤ m + n
-    least m n = omega arith
 
 module _ (spec : Spec) where
   -- one list of expressions behind another

@@ -18,16 +18,9 @@ use Rattle.flow_syntax.specs.Inferred.{Inferred, property_named, function_named,
 use Rattle.flow_syntax.specs.Expected.{Expected, IsMismatch}
 use Rattle.flow_syntax.specs.Occurrences.{Occurrence, form_shape}
 use Rattle.flow_syntax.specs.ExprFaults.{IsMiscounted, IsMisnamed, IsOwnFault, mismatch, misnamed, own_inferred}
-use Rattle.check_base.specs.Earliest.{Gathers, IsFault, IsFaultWhere, Either}
-use Rattle.check_base.proofs.GathersLaws.{Found, Gathers-then, Gathers-same, Gathers-none}
+use Rattle.check_base.specs.Earliest.{Gathers, IsFaultWhere, Either}
+use Rattle.check_base.proofs.GathersLaws.{Found, Gathers-then, Gathers-same}
 use Rattle.check_exprs.specs.inner.Own.{is_undeclared, is_miscounted, is_unbound, OwnFaults}
-
--- what a test noted
-pub noted : (old : Found) (at : ℕ) (kind : SpecFaultKind) (new : Found) → Gathers old new (IsFault at kind) → Gathers old new (IsFaultWhere (IsTrue true) at kind)
-noted old at kind new g = Gathers-same g (λ place k. (λ h. (refl, h.0, h.1), λ h. (h.1, h.2)))
-
-pub not_noted : (old : Found) (at : ℕ) (kind : SpecFaultKind) → Gathers old old (IsFaultWhere (IsTrue false) at kind)
-not_noted old at kind = Gathers-none old (λ place k h. true≢false (sym h.0))
 
 -- the test of a mismatch, in the words of the definition
 pub mismatch_at : (b : Bool) (w : Expected) (form other : Shape) (t u : Inferred) → form ≡ other → t ≡ u → (IsTrue b ↔ IsMismatch w form t) → (IsTrue b ↔ IsMismatch w other u)

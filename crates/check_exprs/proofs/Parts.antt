@@ -1,5 +1,5 @@
 -- The faults of an expression, from those of its own and those of its parts, and what is noted of parts in turn.
-use Rattle.std.proofs.Common.{◌≡◌, ℕ, ◌≤◌, List, [], ◌∷◌, ◌++◌, length, refl, sym, ap, subst, ◌∙◌, inl, inr}
+use Rattle.std.proofs.Common.{◌≡◌, ℕ, List, [], ◌∷◌, ◌++◌, length, refl, sym, ap, subst, ◌∙◌, inl, inr}
 use Rattle.std.specs.Prelude.{◌⊎◌, Contains, if◌then◌else◌}
 use Rattle.std.proofs.Math.ListN.{set}
 use Rattle.std.proofs.lemmas.List.Elements.{Contains-append_left, Contains-append_right, Contains-append_cases, Contains-push}
@@ -22,7 +22,7 @@ use Rattle.check_exprs.specs.inner.Own.{OwnFaults, WholeHas, PartsHave}
 use Rattle.check_exprs.specs.declared.notes.Notes.{Notes}
 use Rattle.check_exprs.specs.inner.Checked.{IsChecked, HasCheckedParts}
 use Rattle.check_exprs.specs.inner.Noted.{IsNoted, AreNoted, IsNotedBefore, noted_types, put_behind}
-use Rattle.check_exprs.proofs.Listed.{Lists-none, Lists-then, Lists-turned, Lists-whole, longer}
+use Rattle.check_exprs.proofs.Listed.{Lists-none, Lists-then, Lists-turned, Lists-whole}
 
 module _ (spec : Spec) (at : ℕ) (kind : SpecFaultKind) where
   among_parts : (ps : List Occurrence) → PartsHave spec ps at kind → (q : Occurrence) × Contains ps q × FaultsWithin spec at kind q
@@ -119,10 +119,6 @@ module _ (spec : Spec) where
     lists = h.lists;
     turned = types ∙ ap (λ i. put_behind start i (noted_types k)) there;
   }
-
-  -- what is listed before is still there
-  pub longer_by : {o n : Notes} (p : Occurrence) → IsNoted spec p o n → length (noted_types o) ≤ length (noted_types n)
-  longer_by {o} {n} p h = longer (noted_types o) h.lists.types (noted_types n) h.lists.added
 
 -- what is inferred of an expression for those that need its type, where its form gives this
 pub inferred_outside : (spec : Spec) (s : Scope) (w : Expected) (e : Expr) (t answer : Inferred) → t ≡ own_inferred spec (occurrence s w e) → answer ≡ (if is_well_named spec s (expr_layer e) then t else faulty) → answer ≡ inferred spec s e

@@ -1,5 +1,5 @@
 //! The declarations that names in expressions stand for, and the types that these tell.
-ghost use Rattle.std.specs.Prelude.{◌≡◌, IfOk};
+ghost use Rattle.std.specs.Prelude.{◌≡◌, IfOk, option_and_then, slice_get};
 ghost use Rattle.std.specs.Option.{option_copied};
 ghost use Rattle.flow_syntax.specs.Inferred.{property_named, function_named, enum_with, lattice_with, constant_named, is_or_faulty, name_inferred, property_inferred, result_inferred};
 ghost use Rattle.flow_syntax.specs.Scopes.{variable_named};
@@ -25,44 +25,49 @@ pub struct Context<'a> {
     pub names: &'a Names<'a>,
 }
 
+/// What has this number among these, if there is a number.
+fn numbered<'a, T>(items: &'a [T], number: Option<usize>) -> Option<&'a T>
+    ensures { option_copied result ≡ option_and_then (slice_get items.now) number }
+{
+    match number {
+        Some(at) => items.get(at),
+        None => None,
+    }
+}
+
 /// The property of this name.
-#[tactic(auto, using(check_base::proofs::Finding::found_property))]
 pub fn property_named<'a>(cx: &Context<'a>, name: &Text) -> Option<&'a PropDecl>
     requires { AreNames cx.now.spec.now cx.now.names.now }
     ensures { option_copied result ≡ property_named cx.now.spec.now name.now }
 {
-    let number = cx.names.property_named(name)?;
-    cx.spec.properties.as_slice().get(number)
+    numbered(cx.spec.properties.as_slice(), cx.names.property_named(name))
 }
 
 /// The function of this name.
-#[tactic(auto, using(check_base::proofs::Finding::found_function))]
 pub fn function_named<'a>(cx: &Context<'a>, name: &Text) -> Option<&'a FunctionDecl>
     requires { AreNames cx.now.spec.now cx.now.names.now }
     ensures { option_copied result ≡ function_named cx.now.spec.now name.now }
 {
-    let number = cx.names.function_named(name)?;
-    cx.spec.functions.as_slice().get(number)
+    numbered(cx.spec.functions.as_slice(), cx.names.function_named(name))
 }
 
 /// The enum that has this item.
-#[tactic(auto, using(check_base::proofs::Finding::found_item))]
 fn enum_with<'a>(cx: &Context<'a>, name: &Text) -> Option<&'a EnumDecl>
     requires { AreNames cx.now.spec.now cx.now.names.now }
     ensures { option_copied result ≡ enum_with cx.now.spec.now name.now }
 {
-    let number = cx.names.enum_with_item(name)?;
-    cx.spec.enums.as_slice().get(number)
+    numbered(cx.spec.enums.as_slice(), cx.names.enum_with_item(name))
 }
 
 /// The lattice that has this element.
-#[tactic(auto, using(check_base::proofs::Finding::found_element))]
 fn lattice_with<'a>(cx: &Context<'a>, name: &Text) -> Option<&'a TableDecl>
     requires { AreNames cx.now.spec.now cx.now.names.now }
     ensures { option_copied result ≡ lattice_with cx.now.spec.now name.now }
 {
-    let number = cx.names.lattice_with_element(name)?;
-    cx.spec.lattices.as_slice().get(number)
+    numbered(
+        cx.spec.lattices.as_slice(),
+        cx.names.lattice_with_element(name),
+    )
 }
 
 /// The type of an item or element.

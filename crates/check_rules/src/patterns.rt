@@ -73,7 +73,7 @@ fn check_applications(spec: &Spec, names: &Names<'_>, pattern: &Pattern, earlies
 
 /// Whether a pattern on this level, or a part of it, looks too deep.
 #[cycle(depth)]
-#[tactic(auto, using(crate::proofs::PatternLayers::looks_deep_out))]
+#[tactic(auto, using(flow_syntax::proofs::PatternDepths::looks_deep_out))]
 fn looks_deep(pattern: &Pattern, level: u8) -> bool
     requires { level ≤ 9 }
     ensures { result ≡ looks_deep pattern.now level }

@@ -1,32 +1,14 @@
 -- The first of the candidates is the first of all.
-use Rattle.std.proofs.Common.{◌≡◌, ℕ, ◌+◌, ◌<◌, ◌≤◌, Bool, true, false, cond, suc, List, [], ◌∷◌, ◌++◌, Option, Some, None, length, get_or, drop, append_assoc, append-nil, find, refl, sym, ap, ◌∙◌, arith}
+use Rattle.std.proofs.Common.{◌≡◌, ℕ, ◌+◌, ◌<◌, Bool, true, false, cond, suc, List, [], ◌∷◌, Option, Some, None, length, get_or, drop, find, refl, sym, ap, ◌∙◌, arith}
 use Rattle.std.specs.Prelude.{is_some, slice_get, option_and_then}
 use Rattle.std.specs.List.{position_from}
 use Rattle.std.specs.Option.{option_or}
-use Rattle.std.proofs.lemmas.List.{drop_all}
 use Rattle.flow_match.specs.Index.{numbers_where}
 use Rattle.flow_match.specs.Matched.{first_some}
 use Rattle.flow_match.specs.inner.Among.{first_among}
 use Rattle.flow_match.proofs.Onto.{from_here}
 
 -- -- numbers of those that pass a test
-
--- one more is looked at
-pub numbers_more : {X : Type 0} (test : X → Bool) (xs : List X) (n : ℕ) (x : X) (old new : List ℕ) (b : Bool) → n < length xs → x ≡ get_or xs n x → b ≡ test x → new ≡ cond b (old ++ n ∷ []) old
-    → new ++ numbers_where test (n + 1) (drop (n + 1) xs) ≡ old ++ numbers_where test n (drop n xs)
-numbers_more test xs n x old new b h is tested e =
-    ap (λ ys. ys ++ numbers_where test (n + 1) (drop (n + 1) xs)) e
-    ∙ go b (numbers_where test (n + 1) (drop (n + 1) xs))
-    ∙ ap (λ c. old ++ cond c (n ∷ numbers_where test (n + 1) (drop (n + 1) xs)) (numbers_where test (n + 1) (drop (n + 1) xs))) (tested ∙ ap test is)
-    ∙ ap (λ ys. old ++ numbers_where test n ys) (sym (from_here xs n x h))
-  where
-    go : (c : Bool) (rest : List ℕ) → cond c (old ++ n ∷ []) old ++ rest ≡ old ++ cond c (n ∷ rest) rest
-    go true rest = append_assoc old (n ∷ []) rest
-    go false rest = refl
-
--- none is left
-pub numbers_end : {X : Type 0} (test : X → Bool) (xs : List X) (n : ℕ) (old : List ℕ) → length xs ≤ n → old ++ numbers_where test n (drop n xs) ≡ old
-numbers_end test xs n old h = rw (drop_all n xs h) (append-nil old)
 
 -- -- the first of those with some numbers
 

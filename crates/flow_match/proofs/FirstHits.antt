@@ -1,16 +1,15 @@
 -- The first that gives something, one after another.
-use Rattle.std.proofs.Common.{◌≡◌, ℕ, ◌+◌, ◌<◌, ◌≤◌, Bool, true, false, ◌&&◌, cond, List, ◌++◌, Option, Some, None, length, get_or, drop, append_assoc, append-nil, refl, sym, ap, ◌∙◌}
+use Rattle.std.proofs.Common.{◌≡◌, ℕ, ◌+◌, ◌<◌, Bool, true, false, ◌&&◌, cond, List, Option, Some, None, length, get_or, drop, refl, sym, ap, ◌∙◌}
 use Rattle.std.specs.Prelude.{is_some, option_map}
 use Rattle.std.specs.Option.{option_or}
-use Rattle.std.proofs.lemmas.List.{drop_all}
 use Rattle.flow_term.specs.declared.term.Term.{Term}
 use Rattle.flow_term.specs.declared.value.Bound.{Bound}
-use Rattle.flow_syntax.specs.declared.property.PropDecl.{PropDecl}
 use Rattle.flow_syntax.specs.declared.property.PropRule.{PropRule}
 use Rattle.flow_syntax.specs.Matching.{matches}
 use Rattle.flow_match.specs.declared.matched.RuleHit.{RuleHit}
 use Rattle.flow_match.specs.Bindings.{bindings_at}
-use Rattle.flow_match.specs.Matched.{first_some, hit_by, hit_of, hits_from, hits_of, is_rule_of, pattern_of}
+use Rattle.flow_syntax.specs.ExprFaults.{trigger_pattern}
+use Rattle.flow_match.specs.Matched.{first_some, hit_by, hit_of, is_rule_of}
 use Rattle.flow_match.proofs.Bindings.{binds_where_it_matches}
 use Rattle.flow_match.proofs.Onto.{from_here}
 
@@ -32,10 +31,6 @@ some_later f xs n x h is nothing = sym (some_next f xs n x h is ∙ ap (λ o. op
 pub some_now : {X Y : Type 0} (f : ℕ → X → Option Y) (xs : List X) (n : ℕ) (x : X) → n < length xs → x ≡ get_or xs n x → is_some (f n x) ≡ true → first_some f n (drop n xs) ≡ f n x
 some_now f xs n x h is there = some_next f xs n x h is ∙ first_of_two (f n x) (first_some f (n + 1) (drop (n + 1) xs)) there
 
--- none is left
-pub some_end : {X Y : Type 0} (f : ℕ → X → Option Y) (xs : List X) (n : ℕ) → length xs ≤ n → first_some f n (drop n xs) ≡ None
-some_end f xs n h = rw (drop_all n xs h) refl
-
 none_of : (b m : Bool) (f : List Bound → RuleHit) (o : Option (List Bound)) → is_some o ≡ m → (b && m) ≡ false → cond b (option_map f o) None ≡ None
 none_of true m f (Some bs) e h = cc
 none_of true m f None e h = refl
@@ -52,26 +47,13 @@ some_of false m f o e h = cc
 
 module _ (property : ℕ) (name : List ℕ) (boundary : Bool) (t : Term) (path : List ℕ) (n : ℕ) (rule : PropRule) where
   -- a rule that isn't one of the property, or doesn't match
-  pub no_hit : (is_rule_of name boundary rule && matches (pattern_of rule.trigger) t) ≡ false → hit_by property name boundary t path n rule ≡ None
-  no_hit = none_of (is_rule_of name boundary rule) (matches (pattern_of rule.trigger) t) (hit_of property boundary n) (bindings_at (pattern_of rule.trigger) t path) (binds_where_it_matches (pattern_of rule.trigger) t path)
+  pub no_hit : (is_rule_of name boundary rule && matches (trigger_pattern rule.trigger) t) ≡ false → hit_by property name boundary t path n rule ≡ None
+  no_hit = none_of (is_rule_of name boundary rule) (matches (trigger_pattern rule.trigger) t) (hit_of property boundary n) (bindings_at (trigger_pattern rule.trigger) t path) (binds_where_it_matches (trigger_pattern rule.trigger) t path)
 
   -- a rule that is one of the property and matches
-  pub one_hit : (is_rule_of name boundary rule && matches (pattern_of rule.trigger) t) ≡ true
-      → hit_by property name boundary t path n rule ≡ option_map (hit_of property boundary n) (bindings_at (pattern_of rule.trigger) t path)
-  one_hit = one_of (is_rule_of name boundary rule) (matches (pattern_of rule.trigger) t) (hit_of property boundary n) (bindings_at (pattern_of rule.trigger) t path) (binds_where_it_matches (pattern_of rule.trigger) t path)
+  pub one_hit : (is_rule_of name boundary rule && matches (trigger_pattern rule.trigger) t) ≡ true
+      → hit_by property name boundary t path n rule ≡ option_map (hit_of property boundary n) (bindings_at (trigger_pattern rule.trigger) t path)
+  one_hit = one_of (is_rule_of name boundary rule) (matches (trigger_pattern rule.trigger) t) (hit_of property boundary n) (bindings_at (trigger_pattern rule.trigger) t path) (binds_where_it_matches (trigger_pattern rule.trigger) t path)
 
-  pub some_hit : (is_rule_of name boundary rule && matches (pattern_of rule.trigger) t) ≡ true → is_some (hit_by property name boundary t path n rule) ≡ true
-  some_hit = some_of (is_rule_of name boundary rule) (matches (pattern_of rule.trigger) t) (hit_of property boundary n) (bindings_at (pattern_of rule.trigger) t path) (binds_where_it_matches (pattern_of rule.trigger) t path)
-
--- one property more
-pub hits_more : (rules : List PropRule) (t : Term) (path : List ℕ) (n : ℕ) (ps : List PropDecl) (p : PropDecl) (old new : List RuleHit) → n < length ps → p ≡ get_or ps n p
-    → new ≡ old ++ hits_of rules t path n p → new ++ hits_from rules t path (n + 1) (drop (n + 1) ps) ≡ old ++ hits_from rules t path n (drop n ps)
-hits_more rules t path n ps p old new h is e =
-    let rest = hits_from rules t path (n + 1) (drop (n + 1) ps) in
-    let whole : hits_of rules t path n (get_or ps n p) ++ rest ≡ hits_from rules t path n (drop n ps) = ap (hits_from rules t path n) (sym (from_here ps n p h)) in
-    let here : hits_of rules t path n p ++ rest ≡ hits_from rules t path n (drop n ps) = ap (λ q. hits_of rules t path n q ++ rest) is ∙ whole in
-    ap (λ xs. xs ++ rest) e ∙ append_assoc old (hits_of rules t path n p) rest ∙ ap (λ xs. old ++ xs) here
-
--- no property is left
-pub hits_end : (rules : List PropRule) (t : Term) (path : List ℕ) (n : ℕ) (ps : List PropDecl) (old : List RuleHit) → length ps ≤ n → old ++ hits_from rules t path n (drop n ps) ≡ old
-hits_end rules t path n ps old h = rw (drop_all n ps h) (append-nil old)
+  pub some_hit : (is_rule_of name boundary rule && matches (trigger_pattern rule.trigger) t) ≡ true → is_some (hit_by property name boundary t path n rule) ≡ true
+  some_hit = some_of (is_rule_of name boundary rule) (matches (trigger_pattern rule.trigger) t) (hit_of property boundary n) (bindings_at (trigger_pattern rule.trigger) t path) (binds_where_it_matches (trigger_pattern rule.trigger) t path)

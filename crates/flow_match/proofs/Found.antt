@@ -11,7 +11,8 @@ use Rattle.flow_syntax.specs.Matching.{matches}
 use Rattle.flow_match.specs.declared.index.PatternIndex.{PatternIndex}
 use Rattle.flow_match.specs.Bindings.{bindings_at}
 use Rattle.flow_match.specs.Index.{IsIndexOf, head_name, head_pattern, may_match, numbers_in, root_name, rule_pattern}
-use Rattle.flow_match.specs.Matched.{first_hit, hit_by, hit_of, is_rule_of, pattern_of}
+use Rattle.flow_syntax.specs.ExprFaults.{trigger_pattern}
+use Rattle.flow_match.specs.Matched.{first_hit, hit_by, hit_of, is_rule_of}
 use Rattle.flow_match.specs.inner.Among.{first_among}
 use Rattle.flow_match.proofs.Among.{among_all, among_later, among_now, find_some, position_some}
 use Rattle.flow_match.proofs.FirstHits.{no_hit, one_hit, some_hit}
@@ -53,40 +54,40 @@ module _ (property : ℕ) (name : List ℕ) (boundary : Bool) (t : Term) (path :
   hit_found rules xs index numbers right same is =
       ap (λ (ys : List PropRule). first_among (hit_by property name boundary t path) ys numbers) same
       ∙ ap (first_among (hit_by property name boundary t path) rules) (is ∙ right (head_name t))
-      ∙ among_all (hit_by property name boundary t path) (λ (rule : PropRule). may_match (head_name t) (root_name (pattern_of rule.trigger))) rules
-      (λ n rule miss. no_hit property name boundary t path n rule (ap (λ b. is_rule_of name boundary rule && b) (misses (pattern_of rule.trigger) t miss) ∙ and_false (is_rule_of name boundary rule)))
+      ∙ among_all (hit_by property name boundary t path) (λ (rule : PropRule). may_match (head_name t) (root_name (trigger_pattern rule.trigger))) rules
+      (λ n rule miss. no_hit property name boundary t path n rule (ap (λ b. is_rule_of name boundary rule && b) (misses (trigger_pattern rule.trigger) t miss) ∙ and_false (is_rule_of name boundary rule)))
 
   module _ (rules : List PropRule) (numbers : List ℕ) (i : ℕ) (within : i < length numbers) where
     -- the rule with this number isn't it
-    pub hit_passed : option_and_then (λ (rule : PropRule). cond (is_rule_of name boundary rule && matches (pattern_of rule.trigger) t) (Some rule) None) (slice_get rules (get_or numbers i 0)) ≡ None
+    pub hit_passed : option_and_then (λ (rule : PropRule). cond (is_rule_of name boundary rule && matches (trigger_pattern rule.trigger) t) (Some rule) None) (slice_get rules (get_or numbers i 0)) ≡ None
         → first_among (hit_by property name boundary t path) rules (drop (i + 1) numbers) ≡ first_among (hit_by property name boundary t path) rules (drop i numbers)
     hit_passed none = among_later (hit_by property name boundary t path) rules numbers i within (go (slice_get rules (get_or numbers i 0)) none)
       where
-        test : (rule : PropRule) (b : Bool) → (is_rule_of name boundary rule && matches (pattern_of rule.trigger) t) ≡ b → cond b (Some rule) None ≡ None → hit_by property name boundary t path (get_or numbers i 0) rule ≡ None
+        test : (rule : PropRule) (b : Bool) → (is_rule_of name boundary rule && matches (trigger_pattern rule.trigger) t) ≡ b → cond b (Some rule) None ≡ None → hit_by property name boundary t path (get_or numbers i 0) rule ≡ None
         test rule true e h = cc
         test rule false e h = no_hit property name boundary t path (get_or numbers i 0) rule e
 
-        go : (o : Option PropRule) → option_and_then (λ (rule : PropRule). cond (is_rule_of name boundary rule && matches (pattern_of rule.trigger) t) (Some rule) None) o ≡ None
+        go : (o : Option PropRule) → option_and_then (λ (rule : PropRule). cond (is_rule_of name boundary rule && matches (trigger_pattern rule.trigger) t) (Some rule) None) o ≡ None
             → option_and_then (hit_by property name boundary t path (get_or numbers i 0)) o ≡ None
         go None h = refl
-        go (Some rule) h = test rule (is_rule_of name boundary rule && matches (pattern_of rule.trigger) t) refl h
+        go (Some rule) h = test rule (is_rule_of name boundary rule && matches (trigger_pattern rule.trigger) t) refl h
 
     -- the rule with this number is it
-    pub hit_reached : (rule : PropRule) → option_and_then (λ (r : PropRule). cond (is_rule_of name boundary r && matches (pattern_of r.trigger) t) (Some r) None) (slice_get rules (get_or numbers i 0)) ≡ Some rule
-        → first_among (hit_by property name boundary t path) rules (drop i numbers) ≡ option_map (hit_of property boundary (get_or numbers i 0)) (bindings_at (pattern_of rule.trigger) t path)
+    pub hit_reached : (rule : PropRule) → option_and_then (λ (r : PropRule). cond (is_rule_of name boundary r && matches (trigger_pattern r.trigger) t) (Some r) None) (slice_get rules (get_or numbers i 0)) ≡ Some rule
+        → first_among (hit_by property name boundary t path) rules (drop i numbers) ≡ option_map (hit_of property boundary (get_or numbers i 0)) (bindings_at (trigger_pattern rule.trigger) t path)
     hit_reached rule some = go (slice_get rules (get_or numbers i 0)) refl some
       where
-        test : (r : PropRule) (b : Bool) → slice_get rules (get_or numbers i 0) ≡ Some r → (is_rule_of name boundary r && matches (pattern_of r.trigger) t) ≡ b → cond b (Some r) None ≡ Some rule
-            → first_among (hit_by property name boundary t path) rules (drop i numbers) ≡ option_map (hit_of property boundary (get_or numbers i 0)) (bindings_at (pattern_of rule.trigger) t path)
+        test : (r : PropRule) (b : Bool) → slice_get rules (get_or numbers i 0) ≡ Some r → (is_rule_of name boundary r && matches (trigger_pattern r.trigger) t) ≡ b → cond b (Some r) None ≡ Some rule
+            → first_among (hit_by property name boundary t path) rules (drop i numbers) ≡ option_map (hit_of property boundary (get_or numbers i 0)) (bindings_at (trigger_pattern rule.trigger) t path)
         test r false at e h = cc
         test r true at e h =
             among_now (hit_by property name boundary t path) rules numbers i within
             (ap (λ (o : Option PropRule). is_some (option_and_then (hit_by property name boundary t path (get_or numbers i 0)) o)) at ∙ some_hit property name boundary t path (get_or numbers i 0) r e)
             ∙ ap (option_and_then (hit_by property name boundary t path (get_or numbers i 0))) at
             ∙ one_hit property name boundary t path (get_or numbers i 0) r e
-            ∙ ap (λ (q : PropRule). option_map (hit_of property boundary (get_or numbers i 0)) (bindings_at (pattern_of q.trigger) t path)) (same_Some r rule h)
+            ∙ ap (λ (q : PropRule). option_map (hit_of property boundary (get_or numbers i 0)) (bindings_at (trigger_pattern q.trigger) t path)) (same_Some r rule h)
 
-        go : (o : Option PropRule) → slice_get rules (get_or numbers i 0) ≡ o → option_and_then (λ (r : PropRule). cond (is_rule_of name boundary r && matches (pattern_of r.trigger) t) (Some r) None) o ≡ Some rule
-            → first_among (hit_by property name boundary t path) rules (drop i numbers) ≡ option_map (hit_of property boundary (get_or numbers i 0)) (bindings_at (pattern_of rule.trigger) t path)
+        go : (o : Option PropRule) → slice_get rules (get_or numbers i 0) ≡ o → option_and_then (λ (r : PropRule). cond (is_rule_of name boundary r && matches (trigger_pattern r.trigger) t) (Some r) None) o ≡ Some rule
+            → first_among (hit_by property name boundary t path) rules (drop i numbers) ≡ option_map (hit_of property boundary (get_or numbers i 0)) (bindings_at (trigger_pattern rule.trigger) t path)
         go None at h = cc
-        go (Some r) at h = test r (is_rule_of name boundary r && matches (pattern_of r.trigger) t) at refl h
+        go (Some r) at h = test r (is_rule_of name boundary r && matches (trigger_pattern r.trigger) t) at refl h

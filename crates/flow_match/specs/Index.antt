@@ -11,7 +11,7 @@ use Rattle.flow_syntax.specs.declared.pattern.PatternKind.TheOpen.{PatternKind-F
 use Rattle.flow_syntax.specs.declared.property.PropRule.{PropRule}
 use Rattle.flow_syntax.specs.declared.rule.FlowRule.{FlowRule}
 use Rattle.flow_match.specs.declared.index.PatternIndex.{PatternIndex}
-use Rattle.flow_match.specs.Matched.{pattern_of}
+use Rattle.flow_syntax.specs.ExprFaults.{trigger_pattern}
 
 -- one layer of a pattern, from what its parts are
 abbrev pub root_layer : PatternKind-F (Option (List ℕ)) (Option (List ℕ)) → Option (List ℕ)
@@ -59,4 +59,4 @@ abbrev pub head_pattern : FlowRule → Pattern
 head_pattern rule = rule.head
 
 abbrev pub rule_pattern : PropRule → Pattern
-rule_pattern rule = pattern_of rule.trigger
+rule_pattern rule = trigger_pattern rule.trigger

@@ -5,23 +5,16 @@ use Rattle.std.specs.Option.{option_or}
 use Rattle.flow_term.specs.declared.term.Term.{Term}
 use Rattle.flow_term.specs.declared.value.Bound.{Bound}
 use Rattle.flow_term.specs.Trees.{At}
-use Rattle.flow_syntax.specs.declared.pattern.Pattern.{Pattern}
 use Rattle.flow_syntax.specs.declared.property.PropDecl.{PropDecl}
 use Rattle.flow_syntax.specs.declared.property.PropRule.{PropRule}
 use Rattle.flow_syntax.specs.declared.property.Trigger.{Trigger}
 use Rattle.flow_syntax.specs.declared.property.Trigger.TheVariants as trigger
 use Rattle.flow_syntax.specs.declared.spec.Spec.{Spec}
+use Rattle.flow_syntax.specs.ExprFaults.{trigger_pattern}
 use Rattle.flow_syntax.specs.Matching.{matches}
 use Rattle.flow_match.specs.declared.matched.Matched.{Matched}
 use Rattle.flow_match.specs.declared.matched.RuleHit.{RuleHit}
 use Rattle.flow_match.specs.Bindings.{bindings_at}
-
--- the pattern of a rule
-abbrev pub pattern_of : Trigger → Pattern
-pattern_of (trigger.Forward p) = p
-pattern_of (trigger.Backward p) = p
-pattern_of (trigger.AtStart p) = p
-pattern_of (trigger.AtEnd p) = p
 
 -- whether it is a rule for start or end nodes
 abbrev pub is_boundary : Trigger → Bool
@@ -40,7 +33,7 @@ hit_of property boundary n bs = record { property = property; rule = n; boundary
 
 -- what a rule with this number gives, where it is one of the property and matches
 abbrev pub hit_by : ℕ → List ℕ → Bool → Term → List ℕ → ℕ → PropRule → Option RuleHit
-hit_by property name boundary t path n rule = cond (is_rule_of name boundary rule) (option_map (hit_of property boundary n) (bindings_at (pattern_of rule.trigger) t path)) None
+hit_by property name boundary t path n rule = cond (is_rule_of name boundary rule) (option_map (hit_of property boundary n) (bindings_at (trigger_pattern rule.trigger) t path)) None
 
 -- what the first of these, numbered from here on, gives that gives something
 abbrev pub first_some : {X Y : Type 0} → (ℕ → X → Option Y) → ℕ → List X → Option Y

@@ -4,7 +4,8 @@ ghost use Rattle.flow_term.specs.Trees.{At, term_size};
 ghost use Rattle.flow_syntax.specs.Matching.{matches};
 ghost use Rattle.flow_match.specs.Bindings.{bindings_at};
 ghost use Rattle.flow_match.specs.Few.{HasFewRules};
-ghost use Rattle.flow_match.specs.Matched.{as_list, hit_of, hits_from, hits_of, is_boundary, is_rule_of, matched, matched_in, pattern_of};
+ghost use Rattle.flow_syntax.specs.ExprFaults.{trigger_pattern};
+ghost use Rattle.flow_match.specs.Matched.{as_list, hit_of, hits_from, hits_of, is_boundary, is_rule_of, matched, matched_in};
 
 use crate::bind::bindings_of;
 use crate::firsts::Firsts;
@@ -15,8 +16,8 @@ use flow_term::{List, Path, Term, Text, term_at};
 use std::alloc::{AllocError, Global};
 
 /// The pattern of a rule.
-pub(crate) fn pattern_of(trigger: &Trigger) -> &Pattern
-    ensures { result.now ≡ pattern_of trigger.now }
+pub(crate) fn trigger_pattern(trigger: &Trigger) -> &Pattern
+    ensures { result.now ≡ trigger_pattern trigger.now }
 {
     match trigger {
         Trigger::Forward(pattern) => pattern,
@@ -47,9 +48,9 @@ fn is_rule_of(name: &Text, boundary: bool, rule: &PropRule) -> bool
 
 /// Whether a rule is one of the property and matches the term.
 pub(crate) fn is_hit(name: &Text, boundary: bool, rule: &PropRule, term: &Term) -> bool
-    ensures { result ≡ (is_rule_of name.now boundary rule.now && matches (pattern_of rule.now.trigger) term.now) }
+    ensures { result ≡ (is_rule_of name.now boundary rule.now && matches (trigger_pattern rule.now.trigger) term.now) }
 {
-    is_rule_of(name, boundary, rule) && is_match(pattern_of(&rule.trigger), term)
+    is_rule_of(name, boundary, rule) && is_match(trigger_pattern(&rule.trigger), term)
 }
 
 /// What a rule gives that is one of the property, where it matches.
@@ -63,9 +64,9 @@ pub(crate) fn hit_of(
     path: &[u32],
 ) -> Result<Option<RuleHit>, AllocError>
     requires { term_size term.now < 2 ^ 32 }
-    ensures { IfOk result (λ hit. hit ≡ option_map (hit_of property boundary number) (bindings_at (pattern_of rule.now.trigger) term.now path.now)) }
+    ensures { IfOk result (λ hit. hit ≡ option_map (hit_of property boundary number) (bindings_at (trigger_pattern rule.now.trigger) term.now path.now)) }
 {
-    match bindings_of(alloc, pattern_of(&rule.trigger), term, path)? {
+    match bindings_of(alloc, trigger_pattern(&rule.trigger), term, path)? {
         Some(bindings) => Ok(Some(RuleHit {
             property,
             rule: number,

@@ -4,10 +4,10 @@ ghost use Rattle.std.specs.Option.{option_copied};
 ghost use Rattle.std.specs.Cmp.Lexicographic.{pointwise};
 ghost use Rattle.indexmap.specs.IndexMap.{Updates, get};
 ghost use Rattle.flow_match.specs.Index.{IsIndexOf, candidates, head_name, may_match, numbers_in, root_name};
-ghost use Rattle.flow_match.specs.Matched.{pattern_of};
+ghost use Rattle.flow_syntax.specs.ExprFaults.{trigger_pattern};
 ghost use Rattle.flow_match.specs.inner.Named.{AddsName, HasNames};
 
-use crate::hits::pattern_of;
+use crate::hits::trigger_pattern;
 use flow_syntax::{FlowRule, Pattern, PatternKind, PropRule};
 use flow_term::{Kind, List, Term, Text};
 use indexmap::IndexMap;
@@ -64,10 +64,10 @@ impl Patterned for FlowRule {
 }
 
 impl Patterned for PropRule {
-    ghost pattern_in = { λ rule. pattern_of rule.trigger };
+    ghost pattern_in = { λ rule. trigger_pattern rule.trigger };
 
     fn pattern(&self) -> &Pattern {
-        pattern_of(&self.trigger)
+        trigger_pattern(&self.trigger)
     }
 }
 

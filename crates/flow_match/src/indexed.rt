@@ -4,7 +4,8 @@ ghost use Rattle.std.specs.Option.{option_copied};
 ghost use Rattle.flow_term.specs.Trees.{term_size};
 ghost use Rattle.flow_syntax.specs.Matching.{matches};
 ghost use Rattle.flow_match.specs.Index.{IsIndexOf, head_pattern, rule_pattern};
-ghost use Rattle.flow_match.specs.Matched.{hit_by, is_rule_of, pattern_of};
+ghost use Rattle.flow_syntax.specs.ExprFaults.{trigger_pattern};
+ghost use Rattle.flow_match.specs.Matched.{hit_by, is_rule_of};
 ghost use Rattle.flow_match.specs.inner.Among.{first_among};
 
 use crate::firsts::Firsts;
@@ -166,7 +167,7 @@ fn hit_if<'a>(
     number: usize,
     term: &Term,
 ) -> Option<&'a PropRule>
-    ensures { option_copied result ≡ option_and_then (λ rule. cond (is_rule_of name.now boundary rule && matches (pattern_of rule.trigger) term.now) (Some rule) None) (slice_get rules.now number) }
+    ensures { option_copied result ≡ option_and_then (λ rule. cond (is_rule_of name.now boundary rule && matches (trigger_pattern rule.trigger) term.now) (Some rule) None) (slice_get rules.now number) }
 {
     let rule = prop_rule_at(rules, number)?;
     if is_hit(name, boundary, rule, term) {

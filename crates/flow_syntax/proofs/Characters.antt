@@ -1,5 +1,5 @@
 -- Where bytes are cut into characters.
-use Rattle.std.proofs.Common.{◌≡◌, ℕ, suc, ◌+◌, ◌<◌, List, [], ◌∷◌, ◌++◌, length, take, drop, get_or, refl, sym, ap, subst, ◌∙◌, arith, IsUtf8, true, append_assoc, length-append}
+use Rattle.std.proofs.Common.{◌≡◌, ℕ, ◌<◌, List, [], ◌∷◌, ◌++◌, length, take, drop, refl, sym, ap, subst, ◌∙◌, arith, IsUtf8, true, append_assoc, length-append}
 use Rattle.std.specs.Prelude.{nat_lt}
 use Rattle.std.specs.Char.{encode_utf8}
 use Rattle.std.specs.List.{list_all}
@@ -7,28 +7,14 @@ use Rattle.std.specs.Str.{IsValidUpTo, IsAscii, all_scalars, encode_utf8_all}
 use Rattle.std.proofs.lemmas.Bool.{and_parts}
 use Rattle.std.proofs.lemmas.Bool.Decides.{nat_tests}
 use Rattle.std.proofs.lemmas.List.{take_at, take-append-drop, length-take-le}
-use Rattle.std.proofs.lemmas.Str.{IsUtf8-take, IsUtf8-drop, IsUtf8-append, IsUtf8-encode, IsUtf8-from_ascii, IsCharBoundary-before_ascii, IsCharBoundary-after_ascii, encode_same, length-encode, len_utf8_bounds}
+use Rattle.std.proofs.lemmas.Str.{IsUtf8-append, IsUtf8-encode, encode_same, length-encode, len_utf8_bounds}
 use Rattle.std.proofs.lemmas.Str.Ascii.{IsAscii-nil, IsAscii-cons}
+use Rattle.quoted_text.proofs.Cuts.{utf8_before, utf8_behind}
 use Rattle.flow_syntax.specs.TokenFaults.{BeginsNoCharacter}
-
-get_at : (xs ys : List ℕ) (b : ℕ) → get_or (xs ++ b ∷ ys) (length xs) 0 ≡ b
-get_at [] ys b = refl
-get_at (x ∷ xs) ys b = get_at xs ys b
-
-drop_past : (xs ys : List ℕ) (b : ℕ) → drop (length xs + 1) (xs ++ b ∷ ys) ≡ ys
-drop_past [] ys b = refl
-drop_past (x ∷ xs) ys b = let e : length (x ∷ xs) + 1 ≡ suc (length xs + 1) = omega arith in rw e (drop_past xs ys b)
 
 -- an ASCII byte cuts a text into texts
 pub ascii_seam : (xs ys : List ℕ) (b : ℕ) → b < 128 → IsUtf8 (xs ++ b ∷ ys) → IsUtf8 xs × IsUtf8 ys
-ascii_seam xs ys b low u =
-    let bytes : List ℕ = xs ++ b ∷ ys in
-    let here : get_or bytes (length xs) 0 ≡ b = get_at xs ys b in
-    let ascii : get_or bytes (length xs) 0 < 128 = omega arith in
-    let within : length xs < length bytes = omega (arith, length-append xs (b ∷ ys)) in (
-      subst IsUtf8 (take_at xs (b ∷ ys) (length xs) refl) (IsUtf8-take bytes (length xs) u (IsCharBoundary-before_ascii bytes (length xs) within ascii)),
-      subst IsUtf8 (drop_past xs ys b) (IsUtf8-drop bytes (length xs + 1) u (IsCharBoundary-after_ascii bytes (length xs) u within ascii)),
-    )
+ascii_seam xs ys b low u = (utf8_before xs ys b low u, utf8_behind xs ys b low u)
 
 pub ascii_text : (bs : List ℕ) → list_all (λ b. nat_lt b 128) bs ≡ true → IsAscii bs
 ascii_text [] h = IsAscii-nil
@@ -41,9 +27,6 @@ behind_ascii (b ∷ front) rest h u =
     let parts = and_parts (nat_lt b 128) (list_all (λ c. nat_lt c 128) front) h in
     let low : b < 128 = grind (arith, nat_tests) in
     behind_ascii front rest parts.1 (ascii_seam [] (front ++ rest) b low u).1
-
-pub ascii_byte : (b : ℕ) → b < 128 → IsUtf8 (b ∷ [])
-ascii_byte b low = IsUtf8-from_ascii (b ∷ []) (IsAscii-cons b [] low IsAscii-nil)
 
 -- no character begins where the longest valid front ends
 pub stuck_after : (bytes : List ℕ) (n : ℕ) → IsValidUpTo bytes n → BeginsNoCharacter (drop n bytes)

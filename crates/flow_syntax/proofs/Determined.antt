@@ -6,18 +6,19 @@ use Rattle.std.specs.Str.Parse.{IsNumeral, digits_value}
 use Rattle.std.proofs.lemmas.Bool.{cases_eq, cases_lt}
 use Rattle.std.proofs.lemmas.Bool.Decides.{nat_tests}
 use Rattle.std.proofs.lemmas.List.{take_at, drop_at, take-append-drop, length-take-le}
+use Rattle.quoted_text.specs.Quotes.{IsInside}
 use Rattle.flow_syntax.specs.declared.token.TokenKind.{TokenKind}
 use Rattle.flow_syntax.specs.declared.token.TokenKind.TheVariants as kinds
 use Rattle.flow_syntax.specs.declared.lexer.piece.Piece.{Piece}
 use Rattle.flow_syntax.specs.declared.lexer.piece.Piece.TheVariants as pieces
 use Rattle.flow_syntax.specs.declared.lexer.refusal.LexFaultKind.{LexFaultKind}
 use Rattle.flow_syntax.specs.declared.lexer.refusal.LexFaultKind.TheVariants as faults
-use Rattle.flow_syntax.specs.Tokens.{is_blank, symbols, IsLexeme, symbol, number, IsLongest, IsTooLarge, EndsLine, IsPassed, blank, comment, token, Spells}
+use Rattle.flow_syntax.specs.Tokens.{is_blank, symbols, IsLexeme, symbol, number, IsLongest, IsTooLarge, EndsLine, IsPassed, blank, comment, token}
 use Rattle.flow_syntax.specs.TokenFaults.{BeginsNoToken, IsFaultAt, bad_character, bad_escape, unclosed, int_range}
 use Rattle.flow_syntax.specs.Lexing.{first_piece, name_len, digits_len, line_len, name_kind, part_at}
 use Rattle.flow_syntax.proofs.Fronts.{front, same_front, Stops, prefix_is}
-use Rattle.flow_syntax.proofs.Lexemes.{Covers, covers, name_lexeme, piece_name, piece_number, piece_symbol, is_name, name_not_number, symbol_not_number, quoted_not_number}
-use Rattle.flow_syntax.proofs.Pieces.{IsPiece, a_blank, a_name, a_number, a_quote, a_comment, a_symbol, is_piece, piece_within}
+use Rattle.flow_syntax.proofs.Lexemes.{Covers, covers, name_lexeme, piece_name, piece_number, is_name, name_not_number, symbol_not_number, quoted_not_number}
+use Rattle.flow_syntax.proofs.Pieces.{IsPiece, a_blank, a_name, a_number, a_quote, a_comment, a_symbol, is_piece, piece_within, piece_symbol}
 use Rattle.flow_syntax.proofs.Quoting.{same_inside, none_first}
 
 -- so many bytes are passed over, or a fault stands so many bytes further
@@ -45,7 +46,7 @@ quote_outcome len value (b ∷ rest) = if b == 34 then passes (len + 2) (Some (k
 -- The bytes have this outcome:
 data Shown (bytes : List ℕ) (o : Outcome) : Type 0 where
   plain : plain_outcome (first_piece bytes) bytes ≡ Some o → Shown bytes o
-  quote : (inside value tail : List ℕ) → first_piece bytes ≡ Some pieces.Quote → bytes ≡ 34 ∷ inside ++ tail → Spells inside value → part_at tail ≡ None → quote_outcome (length inside) value tail ≡ o → Shown bytes o
+  quote : (inside value tail : List ℕ) → first_piece bytes ≡ Some pieces.Quote → bytes ≡ 34 ∷ inside ++ tail → IsInside inside value → part_at tail ≡ None → quote_outcome (length inside) value tail ≡ o → Shown bytes o
 
 never_plain : (bytes : List ℕ) (o : Outcome) → plain_outcome (first_piece bytes) bytes ≡ Some o → first_piece bytes ≡ Some pieces.Quote → ⊥
 never_plain bytes o e q = let none = ap (λ p. plain_outcome p bytes) q in cc
@@ -66,7 +67,7 @@ data IsToken (bytes text : List ℕ) (kind : TokenKind) : Type 0 where
   by_name : first_piece bytes ≡ Some (pieces.Name (length text)) → take (length text) bytes ≡ text → is_name text ≡ true → kind ≡ name_kind text → IsToken bytes text kind
   by_number : first_piece bytes ≡ Some (pieces.Number (length text)) → take (length text) bytes ≡ text → IsNumeral 10 text → kind ≡ kinds.Number (pos (digits_value 10 text)) → IsToken bytes text kind
   by_symbol : first_piece bytes ≡ Some (pieces.Symbol (length text)) → take (length text) bytes ≡ text → Contains symbols text → kind ≡ kinds.Symbol text → IsToken bytes text kind
-  by_quote : (inside value : List ℕ) → first_piece bytes ≡ Some pieces.Quote → text ≡ 34 ∷ inside ++ 34 ∷ [] → Spells inside value → kind ≡ kinds.Quoted value → IsToken bytes text kind
+  by_quote : (inside value : List ℕ) → first_piece bytes ≡ Some pieces.Quote → text ≡ 34 ∷ inside ++ 34 ∷ [] → IsInside inside value → kind ≡ kinds.Quoted value → IsToken bytes text kind
 
 token_piece : (bytes text rest : List ℕ) (kind : TokenKind) → bytes ≡ text ++ rest → IsLongest text kind bytes → IsToken bytes text kind
 token_piece bytes text rest kind e l = go (first_piece bytes) refl (covers bytes text rest kind e l.lexeme)

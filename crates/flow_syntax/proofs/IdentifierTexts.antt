@@ -22,7 +22,7 @@ lexeme_of text other kind (identifier name plain) e = subst IsIdentifier (ap ide
 lexeme_of text other kind (word w) e = cc
 lexeme_of text other kind (symbol s) e = cc
 lexeme_of text other kind (number n) e = cc
-lexeme_of text other kind (quoted inside value q s) e = cc
+lexeme_of text other kind (quoted value (inside, s, q)) e = cc
 
 passed_of : (text rest other : List ℕ) (kind : Option TokenKind) → IsPassed text rest kind → kind ≡ Some (kinds.Ident other) → IsIdentifier other
 passed_of text rest other kind (blank b h) e = cc

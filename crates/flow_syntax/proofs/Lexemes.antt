@@ -1,19 +1,19 @@
 -- Tokens in front of bytes, against the first piece of the bytes.
-use Rattle.std.proofs.Common.{◌≡◌, ℕ, ◌<◌, ◌≤◌, Bool, true, false, List, [], ◌∷◌, ◌++◌, length, take, drop, Some, None, Option, refl, sym, ap, subst, ◌∙◌, arith, inl, inr, one-add}
+use Rattle.std.proofs.Common.{◌≡◌, ℕ, ◌<◌, ◌≤◌, Bool, true, false, List, [], ◌∷◌, ◌++◌, length, take, Some, None, Option, refl, sym, subst, arith, inl, inr, one-add}
 use Rattle.std.specs.Prelude.{◌==◌, ◌&&◌, not, find, nat_eq, codes, Contains, pos}
 use Rattle.std.specs.Char.{is_ascii_alphabetic, is_ascii_digit, digit_value}
 use Rattle.std.specs.List.{starts_with, list_all}
 use Rattle.std.specs.Str.Parse.{IsNumeral, AllDigits, digits_value}
 use Rattle.std.proofs.lemmas.Bool.{cases_Bool, and_parts, and_from, false_from_ne_true}
 use Rattle.std.proofs.lemmas.Bool.Decides.{nat_tests}
-use Rattle.std.proofs.lemmas.List.{take_at}
+use Rattle.quoted_text.specs.Quotes.{IsInside}
 use Rattle.flow_syntax.specs.declared.token.TokenKind.{TokenKind}
 use Rattle.flow_syntax.specs.declared.token.TokenKind.TheVariants as kinds
 use Rattle.flow_syntax.specs.declared.lexer.piece.Piece.{Piece}
 use Rattle.flow_syntax.specs.declared.lexer.piece.Piece.TheVariants as pieces
-use Rattle.flow_syntax.specs.Tokens.{is_blank, is_name_byte, symbols, reserved_words, IsName, IsLexeme, identifier, word, symbol, number, quoted, Spells}
+use Rattle.flow_syntax.specs.Tokens.{is_blank, is_name_byte, symbols, reserved_words, IsName, IsLexeme, identifier, word, symbol, number, quoted}
 use Rattle.flow_syntax.specs.Lexing.{first_piece, name_len, digits_len, is_reserved, name_kind}
-use Rattle.flow_syntax.proofs.Fronts.{is_longest_first, front, all_at, longest_found, some_found, is_found, prefix_of_passing, list_all_prefix, any_found, found_any}
+use Rattle.flow_syntax.proofs.Fronts.{is_longest_first, front, all_at, longest_found, some_found, prefix_of_passing, list_all_prefix, any_found, found_any}
 use Rattle.flow_syntax.proofs.Pieces.{a_blank, a_name, a_number, a_quote, a_comment, a_symbol, is_piece}
 
 -- a name, as a test
@@ -161,7 +161,7 @@ Covers (Some (pieces.Blank n)) text kind = ⊥
 Covers (Some (pieces.Name n)) text kind = (length text ≤ n) × (is_name text ≡ true) × (kind ≡ name_kind text)
 Covers (Some (pieces.Number n)) text kind = (length text ≤ n) × IsNumeral 10 text × (kind ≡ kinds.Number (pos (digits_value 10 text)))
 Covers (Some (pieces.Symbol n)) text kind = (length text ≤ n) × Contains symbols text × (kind ≡ kinds.Symbol text)
-Covers (Some pieces.Quote) text kind = (inside : List ℕ) × (value : List ℕ) × (text ≡ 34 ∷ inside ++ 34 ∷ []) × Spells inside value × (kind ≡ kinds.Quoted value)
+Covers (Some pieces.Quote) text kind = (inside : List ℕ) × (value : List ℕ) × (text ≡ 34 ∷ inside ++ 34 ∷ []) × IsInside inside value × (kind ≡ kinds.Quoted value)
 
 name_covered : (text after : List ℕ) (kind : TokenKind) → is_name text ≡ true → kind ≡ name_kind text → Covers (first_piece (text ++ after)) text kind
 name_covered text after kind h k =
@@ -176,7 +176,7 @@ covered text after kind (symbol s) =
 covered text after kind (number n) =
     let passes = digits_passing text n.1 in
     subst (λ o. Covers o text kind) (sym (number_first text after n.0 passes)) (prefix_of_passing is_ascii_digit text after passes, n, refl)
-covered text after kind (quoted inside value e s) =
+covered text after kind (quoted value (inside, s, e)) =
     let first : first_piece (text ++ after) ≡ Some pieces.Quote = rw e refl in
     subst (λ o. Covers o text kind) (sym first) (inside, value, e, s, refl)
 
@@ -217,20 +217,6 @@ piece_number (b ∷ bytes) n e = elim (is_piece b (b ∷ bytes) (pieces.Number n
   | a_quote h d ↦ cc
   | a_comment h m d ↦ cc
   | a_symbol s f d ↦ cc
-]
-
-pub piece_symbol : (bytes : List ℕ) (n : ℕ) → first_piece bytes ≡ Some (pieces.Symbol n) → Contains symbols (take n bytes)
-piece_symbol [] n e = cc
-piece_symbol (b ∷ bytes) n e = elim (is_piece b (b ∷ bytes) (pieces.Symbol n) e) [
-  | a_blank h d ↦ cc
-  | a_name h d ↦ cc
-  | a_number h d ↦ cc
-  | a_quote h d ↦ cc
-  | a_comment h m d ↦ cc
-  | a_symbol s f d ↦ (let found = is_found symbols (b ∷ bytes) s f in
-      let len : n ≡ length s = cc in
-      let same : take n (b ∷ bytes) ≡ s = rw len (ap (take (length s)) (front (b ∷ bytes) s found.1) ∙ take_at s (drop (length s) (b ∷ bytes)) (length s) refl) in
-      rw same found.0)
 ]
 
 -- THE KIND OF A NAME

@@ -11,6 +11,7 @@ pub mod Matches
 pub mod Numbers
 pub mod Parts
 pub mod Passing
+pub mod PatternDepths
 pub mod Pieces
 pub mod Preorders
 pub mod QuotedTexts

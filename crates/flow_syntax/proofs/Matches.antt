@@ -1,5 +1,5 @@
 -- Matching, by one layer of the pattern.
-use Rattle.std.proofs.Common.{◌≡◌, ℕ, suc, ◌≤◌, Bool, true, false, ◌&&◌, List, [], ◌∷◌, Some, length, map, find, cond, refl, sym, ap, subst, ◌∙◌, arith}
+use Rattle.std.proofs.Common.{◌≡◌, suc, ◌≤◌, Bool, true, false, ◌&&◌, List, [], ◌∷◌, Some, length, map, find, cond, refl, sym, ap, subst, ◌∙◌, arith}
 use Rattle.std.specs.Prelude.{Contains}
 use Rattle.std.proofs.lemmas.List.{length-map}
 use Rattle.std.proofs.lemmas.List.Elements.{Contains-get_or, Contains-append_right}
@@ -8,8 +8,8 @@ use Rattle.flow_term.specs.Annotations.{term_layer}
 use Rattle.flow_term.specs.Trees.{children}
 use Rattle.flow_syntax.specs.Control.{arguments_in}
 use Rattle.flow_term.specs.declared.term.Term.{Term}
-use Rattle.flow_syntax.specs.declared.pattern.Pattern.{Pattern, Pattern-F, roll-Pattern, out-Pattern, fold-roll-Pattern, fold_out-Pattern}
-use Rattle.flow_syntax.specs.declared.pattern.PatternKind.{PatternKind, PatternKind-F, roll-PatternKind, fold-PatternKind, fold-roll-PatternKind, fold_out-PatternKind, map-PatternKind}
+use Rattle.flow_syntax.specs.declared.pattern.Pattern.{Pattern, Pattern-F, out-Pattern, fold_out-Pattern}
+use Rattle.flow_syntax.specs.declared.pattern.PatternKind.{PatternKind, PatternKind-F, fold-PatternKind, fold_out-PatternKind, map-PatternKind}
 use Rattle.flow_syntax.specs.Matching.{matches, Matcher, match_layer, PatternLayer, pattern_layer, fit, is_apply}
 
 abbrev outer_step : Pattern-F Matcher Matcher → Matcher
@@ -26,11 +26,6 @@ tests_of = map-PatternKind PatternKind Pattern Matcher Matcher kind_matches matc
 pub matches_out : (p : Pattern) (t : Term) → matches p t ≡ match_layer (tests_of (pattern_layer p)) t
 matches_out p t = ap (λ (m : Matcher). m t)
     (fold_out-Pattern Matcher Matcher match_layer outer_step p ∙ fold_out-PatternKind Matcher Matcher match_layer outer_step (out-Pattern p).kind)
-
--- the same of a pattern that is made of a layer
-pub matches_roll : (n : ℕ) (x : PatternLayer) (t : Term) → matches (roll-Pattern (record { place = n; kind = roll-PatternKind x })) t ≡ match_layer (tests_of x) t
-matches_roll n x t = ap (λ (m : Matcher). m t)
-    (fold-roll-Pattern Matcher Matcher match_layer outer_step (record { place = n; kind = roll-PatternKind x }) ∙ fold-roll-PatternKind Matcher Matcher match_layer outer_step x)
 
 both_true : (a b : Bool) → (a && b) ≡ true → b ≡ true
 both_true true b h = h

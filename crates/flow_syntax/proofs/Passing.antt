@@ -5,9 +5,10 @@ use Rattle.std.specs.List.{list_all}
 use Rattle.std.proofs.lemmas.Bool.Decides.{nat_tests}
 use Rattle.std.proofs.lemmas.Str.{IsUtf8-append, IsUtf8-nil, IsUtf8-from_ascii}
 use Rattle.std.specs.Str.Parse.{IsNumeral}
+use Rattle.quoted_text.proofs.Cuts.{ascii_byte}
 use Rattle.flow_syntax.specs.declared.token.TokenKind.{TokenKind}
 use Rattle.flow_syntax.specs.Tokens.{is_blank, symbols, reserved_words, IsLexeme, identifier, word, symbol, number, quoted, EndsLine, IsPassed, blank, comment, token}
-use Rattle.flow_syntax.proofs.Characters.{ascii_seam, ascii_byte, ascii_text, behind_ascii}
+use Rattle.flow_syntax.proofs.Characters.{ascii_seam, ascii_text, behind_ascii}
 use Rattle.flow_syntax.proofs.Fronts.{all_at}
 use Rattle.flow_syntax.proofs.Lexemes.{is_name, some_name, named, words_named, name_bytes, digits_passing}
 use Rattle.flow_syntax.proofs.Pieces.{symbols_full, symbols_ascii, names_ascii, digits_ascii}
@@ -17,7 +18,7 @@ some_lexeme text kind (identifier n r) = some_name text (named text n)
 some_lexeme text kind (word r) = some_name text (all_at is_name reserved_words text words_named r)
 some_lexeme text kind (symbol s) = let full : nat_le 1 (length text) ≡ true = all_at (λ t. nat_le 1 (length t)) symbols text symbols_full s in grind (arith, nat_tests)
 some_lexeme text kind (number n) = n.0
-some_lexeme text kind (quoted inside value e s) = rw e (omega arith)
+some_lexeme text kind (quoted value (inside, s, e)) = rw e (omega arith)
 
 -- something is passed over
 pub passed_some : (text rest : List ℕ) (kind : Option TokenKind) → IsPassed text rest kind → 0 < length text
@@ -39,7 +40,7 @@ behind_lexeme text rest kind (identifier n r) u = behind_ascii text rest (names_
 behind_lexeme text rest kind (word r) u = behind_ascii text rest (names_ascii text (name_bytes text (all_at is_name reserved_words text words_named r))) u
 behind_lexeme text rest kind (symbol s) u = behind_ascii text rest (all_at (λ t. list_all (λ c. nat_lt c 128) t) symbols text symbols_ascii s) u
 behind_lexeme text rest kind (number n) u = behind_ascii text rest (digits_ascii text (digits_passing text n.1)) u
-behind_lexeme text rest kind (quoted inside value e s) u =
+behind_lexeme text rest kind (quoted value (inside, s, e)) u =
     (ascii_seam (34 ∷ inside) rest 34 (omega arith) (subst IsUtf8 (ap (λ z. z ++ rest) e ∙ append_assoc (34 ∷ inside) (34 ∷ []) rest) u)).1
 
 -- what stands behind it in a text is a text

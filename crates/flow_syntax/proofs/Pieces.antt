@@ -1,11 +1,11 @@
 -- Pieces of a text, and why each is the first.
 use Rattle.std.proofs.Common.{◌≡◌, ℕ, ◌≤◌, true, false, List, [], ◌∷◌, length, take, drop, Some, None, Option, refl, sym, ap, ◌∙◌, arith, inl, inr, length-append}
-use Rattle.std.specs.Prelude.{option_map, find, nat_eq, nat_le, nat_lt, codes, ◌==◌, ◌||◌, IsUtf8, not}
+use Rattle.std.specs.Prelude.{option_map, find, nat_eq, nat_le, nat_lt, codes, ◌==◌, ◌||◌, IsUtf8, Contains, not}
 use Rattle.std.specs.Char.{is_ascii_alphabetic, is_ascii_digit}
 use Rattle.std.specs.List.{starts_with, list_all}
 use Rattle.std.proofs.lemmas.Bool.{and_parts, or_parts}
 use Rattle.std.proofs.lemmas.Bool.Decides.{nat_tests}
-use Rattle.std.proofs.lemmas.List.{take_at}
+use Rattle.std.proofs.lemmas.List.{take_at, length-take-le}
 use Rattle.std.proofs.lemmas.Str.{IsUtf8-from_ascii}
 use Rattle.std.proofs.lemmas.List.Sums.{prefix_len-le-length}
 use Rattle.flow_syntax.specs.declared.lexer.piece.Piece.{Piece}
@@ -83,6 +83,9 @@ pub piece_within : (bytes : List ℕ) (p : Piece) → first_piece bytes ≡ Some
 piece_within [] p e = cc
 piece_within (b ∷ bytes) p e = within_at b bytes p (is_piece b (b ∷ bytes) p e)
 
+pub piece_taken : (bytes : List ℕ) (p : Piece) → first_piece bytes ≡ Some p → length (take (piece_len p) bytes) ≡ piece_len p
+piece_taken bytes p e = length-take-le (piece_len p) bytes (piece_within bytes p e).1
+
 pub names_ascii : (bs : List ℕ) → list_all is_name_byte bs ≡ true → list_all (λ b. nat_lt b 128) bs ≡ true
 names_ascii [] h = refl
 names_ascii (b ∷ bs) h = let parts = and_parts (is_name_byte b) (list_all is_name_byte bs) h in let low : nat_lt b 128 ≡ true = grind (arith, nat_tests) in rw low (names_ascii bs parts.1)
@@ -94,22 +97,26 @@ digits_ascii (b ∷ bs) h = let parts = and_parts (is_ascii_digit b) (list_all i
 pub symbols_ascii : list_all (λ s. list_all (λ b. nat_lt b 128) s) symbols ≡ true
 symbols_ascii = refl
 
--- the text of a piece that is a symbol
-pub symbol_text : (bytes : List ℕ) (n : ℕ) → first_piece bytes ≡ Some (pieces.Symbol n) → IsUtf8 (take n bytes)
-symbol_text [] n e = cc
-symbol_text (b ∷ bytes) n e = elim (is_piece b (b ∷ bytes) (pieces.Symbol n) e) [
+-- a piece that is a symbol is one of the table
+pub piece_symbol : (bytes : List ℕ) (n : ℕ) → first_piece bytes ≡ Some (pieces.Symbol n) → Contains symbols (take n bytes)
+piece_symbol [] n e = cc
+piece_symbol (b ∷ bytes) n e = elim (is_piece b (b ∷ bytes) (pieces.Symbol n) e) [
   | a_blank h d ↦ cc
-  | a_name k d ↦ cc
-  | a_number k d ↦ cc
-  | a_quote k d ↦ cc
+  | a_name h d ↦ cc
+  | a_number h d ↦ cc
+  | a_quote h d ↦ cc
   | a_comment h m d ↦ cc
   | a_symbol s f d ↦ (let found = is_found symbols (b ∷ bytes) s f in
       let len : n ≡ length s = cc in
       let same : take n (b ∷ bytes) ≡ s = rw len (ap (take (length s)) (front (b ∷ bytes) s found.1) ∙ take_at s (drop (length s) (b ∷ bytes)) (length s) refl) in
-      rw same (IsUtf8-from_ascii s (ascii_text s (all_at (λ t. list_all (λ c. nat_lt c 128) t) symbols s symbols_ascii found.0))))
+      rw same found.0)
 ]
 
--- and of one that is a name
+-- and its text is one
+pub symbol_text : (bytes : List ℕ) (n : ℕ) → first_piece bytes ≡ Some (pieces.Symbol n) → IsUtf8 (take n bytes)
+symbol_text bytes n e = let text : List ℕ = take n bytes in IsUtf8-from_ascii text (ascii_text text (all_at (λ s. list_all (λ b. nat_lt b 128) s) symbols text symbols_ascii (piece_symbol bytes n e)))
+
+-- so is that of a name
 pub name_text : (bytes : List ℕ) (n : ℕ) → first_piece bytes ≡ Some (pieces.Name n) → IsUtf8 (take n bytes)
 name_text [] n e = cc
 name_text (b ∷ bytes) n e = elim (is_piece b (b ∷ bytes) (pieces.Name n) e) [

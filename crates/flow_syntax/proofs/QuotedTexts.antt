@@ -6,28 +6,29 @@ use Rattle.std.proofs.lemmas.Bool.Decides.{nat_tests}
 use Rattle.std.proofs.lemmas.List.{take_at, drop_at, drop_all, take-append-drop, length-take-le}
 use Rattle.flow_syntax.specs.declared.token.TokenKind.TheVariants as kinds
 use Rattle.flow_syntax.specs.declared.lexer.refusal.LexFaultKind.TheVariants as faults
-use Rattle.flow_syntax.specs.Tokens.{Spells, nothing}
+use Rattle.quoted_text.proofs.Insides.{piece_more, spelled_utf8}
+use Rattle.quoted_text.specs.Quotes.{IsInside}
 use Rattle.flow_syntax.specs.TokenFaults.{IsFaultAt, bad_escape, unclosed}
 use Rattle.flow_syntax.specs.Lexing.{part_at, escape_at}
 use Rattle.flow_syntax.proofs.Characters.{ascii_seam}
 use Rattle.flow_syntax.proofs.Fronts.{chosen}
-use Rattle.flow_syntax.proofs.Quoting.{part_found, no_part_first, spells_snoc, spelled_utf8}
+use Rattle.flow_syntax.proofs.Quoting.{part_found, no_part_first}
 use Rattle.flow_syntax.proofs.Steps.{Passes, quoted_passed}
 
 -- a quote and parts that spell the value stand in front of the place
 abbrev pub IsReadTo : List ℕ → ℕ → List ℕ → Type 0
-IsReadTo bytes at value = (inside : List ℕ) × (take at bytes ≡ 34 ∷ inside) × Spells inside value
+IsReadTo bytes at value = (inside : List ℕ) × (take at bytes ≡ 34 ∷ inside) × IsInside inside value
 
 pub begun : (bytes : List ℕ) → slice_get bytes 0 ≡ Some 34 → (1 ≤ length bytes) × IsReadTo bytes 1 []
 begun [] e = cc
-begun (b ∷ bytes) e = let same : b ≡ 34 = cc in (omega arith, ([], rw same refl, nothing))
+begun (b ∷ bytes) e = let same : b ≡ 34 = cc in (omega arith, ([], rw same refl, refl))
 
 pub read_part : (bytes value : List ℕ) (at b n : ℕ) → at ≤ length bytes → IsReadTo bytes at value → part_at (drop at bytes) ≡ Some (b, n) → (1 ≤ n) × (at + n ≤ length bytes) × IsReadTo bytes (at + n) (value ++ b ∷ [])
 read_part bytes value at b n within (inside, e, s) p =
     let found = part_found (drop at bytes) b n p in (
       found.0,
       omega (arith, found.1, length-drop at bytes),
-      (inside ++ take n (drop at bytes), take-add at n bytes ∙ ap (λ z. z ++ take n (drop at bytes)) e, spells_snoc inside value (take n (drop at bytes)) b s found.2),
+      (inside ++ take n (drop at bytes), take-add at n bytes ∙ ap (λ z. z ++ take n (drop at bytes)) e, piece_more inside value (take n (drop at bytes)) b s found.2),
     )
 
 whole : (bytes inside tail : List ℕ) (at : ℕ) → take at bytes ≡ 34 ∷ inside → drop at bytes ≡ tail → bytes ≡ 34 ∷ inside ++ tail

@@ -5,17 +5,18 @@ use Rattle.std.specs.Char.{is_ascii_alphabetic, is_ascii_digit}
 use Rattle.std.specs.List.{starts_with, list_all}
 use Rattle.std.specs.Str.Parse.{digits_value}
 use Rattle.std.proofs.lemmas.Bool.Decides.{nat_tests}
-use Rattle.std.proofs.lemmas.List.{take-append-drop, length-take-le}
+use Rattle.std.proofs.lemmas.List.{take-append-drop}
+use Rattle.quoted_text.specs.Quotes.{IsInside}
 use Rattle.flow_syntax.specs.declared.token.TokenKind.{TokenKind}
 use Rattle.flow_syntax.specs.declared.token.TokenKind.TheVariants as kinds
 use Rattle.flow_syntax.specs.declared.lexer.piece.Piece.TheVariants as pieces
 use Rattle.flow_syntax.specs.declared.lexer.refusal.LexFaultKind.TheVariants as faults
-use Rattle.flow_syntax.specs.Tokens.{is_blank, symbol, number, quoted, IsLongest, IsTooLarge, EndsLine, IsPassed, blank, comment, token, Spells}
+use Rattle.flow_syntax.specs.Tokens.{is_blank, symbol, number, quoted, IsLongest, IsTooLarge, EndsLine, IsPassed, blank, comment, token}
 use Rattle.flow_syntax.specs.TokenFaults.{BeginsNoToken, IsFaultAt, bad_character, int_range}
 use Rattle.flow_syntax.specs.Lexing.{first_piece, line_len, name_kind}
 use Rattle.flow_syntax.proofs.Fronts.{chosen, front, starts, Stops, stops_after, all_at, list_all_prefix}
-use Rattle.flow_syntax.proofs.Lexemes.{Covers, covers, name_lexeme, piece_name, piece_number, piece_symbol, name_not_number, symbol_not_number, quoted_not_number}
-use Rattle.flow_syntax.proofs.Pieces.{a_blank, a_name, a_number, a_quote, a_comment, a_symbol, is_piece, piece_within}
+use Rattle.flow_syntax.proofs.Lexemes.{Covers, covers, name_lexeme, piece_name, piece_number, name_not_number, symbol_not_number, quoted_not_number}
+use Rattle.flow_syntax.proofs.Pieces.{a_blank, a_name, a_number, a_quote, a_comment, a_symbol, is_piece, piece_within, piece_taken, piece_symbol}
 use Rattle.flow_syntax.proofs.Quoting.{same_inside}
 
 -- THE LONGEST TOKEN
@@ -23,7 +24,7 @@ use Rattle.flow_syntax.proofs.Quoting.{same_inside}
 -- a piece that is a token is the longest one
 pub longest_name : (bytes : List ℕ) (n : ℕ) → first_piece bytes ≡ Some (pieces.Name n) → IsLongest (take n bytes) (name_kind (take n bytes)) bytes
 longest_name bytes n e =
-    let len : length (take n bytes) ≡ n = length-take-le n bytes (piece_within bytes (pieces.Name n) e).1 in
+    let len : length (take n bytes) ≡ n = piece_taken bytes (pieces.Name n) e in
     record {
       lexeme = name_lexeme (take n bytes) (piece_name bytes n e);
       longest = λ other after k b l. let c = subst (λ o. Covers o other k) e (covers bytes other after k b l) in omega (arith, c.0);
@@ -31,7 +32,7 @@ longest_name bytes n e =
 
 pub longest_number : (bytes : List ℕ) (n : ℕ) → first_piece bytes ≡ Some (pieces.Number n) → IsLongest (take n bytes) (kinds.Number (pos (digits_value 10 (take n bytes)))) bytes
 longest_number bytes n e =
-    let len : length (take n bytes) ≡ n = length-take-le n bytes (piece_within bytes (pieces.Number n) e).1 in
+    let len : length (take n bytes) ≡ n = piece_taken bytes (pieces.Number n) e in
     record {
       lexeme = number (piece_number bytes n e);
       longest = λ other after k b l. let c = subst (λ o. Covers o other k) e (covers bytes other after k b l) in omega (arith, c.0);
@@ -39,21 +40,21 @@ longest_number bytes n e =
 
 pub longest_symbol : (bytes : List ℕ) (n : ℕ) → first_piece bytes ≡ Some (pieces.Symbol n) → IsLongest (take n bytes) (kinds.Symbol (take n bytes)) bytes
 longest_symbol bytes n e =
-    let len : length (take n bytes) ≡ n = length-take-le n bytes (piece_within bytes (pieces.Symbol n) e).1 in
+    let len : length (take n bytes) ≡ n = piece_taken bytes (pieces.Symbol n) e in
     record {
       lexeme = symbol (piece_symbol bytes n e);
       longest = λ other after k b l. let c = subst (λ o. Covers o other k) e (covers bytes other after k b l) in omega (arith, c.0);
     }
 
 -- no part of a quoted text begins at its closing quote
-same_quoted : (inside other value v rest after : List ℕ) → Spells inside value → Spells other v → (34 ∷ inside ++ 34 ∷ []) ++ rest ≡ (34 ∷ other ++ 34 ∷ []) ++ after → (inside ≡ other) × (value ≡ v)
+same_quoted : (inside other value v rest after : List ℕ) → IsInside inside value → IsInside other v → (34 ∷ inside ++ 34 ∷ []) ++ rest ≡ (34 ∷ other ++ 34 ∷ []) ++ after → (inside ≡ other) × (value ≡ v)
 same_quoted inside other value v rest after s t e =
     let tails : (inside ++ 34 ∷ []) ++ rest ≡ (other ++ 34 ∷ []) ++ after = cc in
     same_inside inside other value v (34 ∷ rest) (34 ∷ after) s t (sym (append_assoc inside (34 ∷ []) rest) ∙ tails ∙ append_assoc other (34 ∷ []) after) refl refl
 
-pub longest_quoted : (inside value rest : List ℕ) → Spells inside value → IsLongest (34 ∷ inside ++ 34 ∷ []) (kinds.Quoted value) ((34 ∷ inside ++ 34 ∷ []) ++ rest)
+pub longest_quoted : (inside value rest : List ℕ) → IsInside inside value → IsLongest (34 ∷ inside ++ 34 ∷ []) (kinds.Quoted value) ((34 ∷ inside ++ 34 ∷ []) ++ rest)
 longest_quoted inside value rest s = record {
-  lexeme = quoted inside value refl s;
+  lexeme = quoted value (inside, s, refl);
   longest = λ other after k b l. go other after k b (covers ((34 ∷ inside ++ 34 ∷ []) ++ rest) other after k b l);
 }
   where
@@ -85,7 +86,7 @@ pub number_too_large : (bytes : List ℕ) (n : ℕ) → first_piece bytes ≡ So
 number_too_large bytes n e large =
     int_range (take n bytes) (drop n bytes) (kinds.Number (pos (digits_value 10 (take n bytes)))) (sym (take-append-drop n bytes)) (longest_number bytes n e) (piece_number bytes n e, large)
 
-pub quoted_passed : (inside value rest : List ℕ) → Spells inside value → IsPassed (34 ∷ inside ++ 34 ∷ []) rest (Some (kinds.Quoted value))
+pub quoted_passed : (inside value rest : List ℕ) → IsInside inside value → IsPassed (34 ∷ inside ++ 34 ∷ []) rest (Some (kinds.Quoted value))
 quoted_passed inside value rest s = token (longest_quoted inside value rest s) (λ l. quoted_not_number (inside ++ 34 ∷ []) l.0)
 
 ends_line : (rest : List ℕ) → Stops (λ b. not (b == 10)) rest → EndsLine rest

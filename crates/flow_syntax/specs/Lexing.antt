@@ -1,8 +1,9 @@
 -- What the lexer's functions compute, and what its steps answer.
-use Rattle.std.specs.Prelude.{◌≡◌, ℕ, ◌+◌, ◌-◌, ◌*◌, ◌≤◌, ◌==◌, ◌&&◌, nat_le, Bool, not, if◌then◌else◌, List, [], ◌∷◌, length, take, drop, Option, Some, None, option_map, option_and_then, find, slice_get, nat_eq, bytes_eq, codes, ℤ, pos, Result, Ok, Err}
+use Rattle.std.specs.Prelude.{◌≡◌, ℕ, ◌+◌, ◌≤◌, ◌==◌, nat_le, Bool, not, if◌then◌else◌, List, [], ◌∷◌, length, take, drop, Option, Some, None, option_map, option_and_then, find, slice_get, nat_eq, bytes_eq, codes, ℤ, pos, Result, Ok, Err}
 use Rattle.std.specs.Char.{is_ascii_alphabetic, is_ascii_digit}
 use Rattle.std.specs.List.{list_any, prefix_len, starts_with}
 use Rattle.std.specs.Str.Parse.{digits_value}
+use Rattle.quoted_text.specs.Escapes.{short_escape, octal_byte}
 use Rattle.flow_syntax.specs.declared.token.TokenKind.{TokenKind}
 use Rattle.flow_syntax.specs.declared.token.TokenKind.TheVariants as kinds
 use Rattle.flow_syntax.specs.declared.lexer.piece.Piece.{Piece}
@@ -47,27 +48,22 @@ name_kind text = if is_reserved text then kinds.Word text else kinds.Ident text
 abbrev pub number_of : List ℕ → Option ℤ
 number_of digits = if nat_le (digits_value 10 digits) 9223372036854775807 then Some (pos (digits_value 10 digits)) else None
 
-abbrev pub is_octal : ℕ → Bool
-is_octal b = nat_le 48 b && nat_le b 55
-
--- the ASCII character of three octal digits
-abbrev pub octal_value : ℕ → ℕ → ℕ → Option ℕ
-octal_value h m l = if (nat_le 48 h && nat_le h 49) && is_octal m && is_octal l then Some ((h - 48) * 64 + (m - 48) * 8 + (l - 48)) else None
-
+-- a backslash and three octal digits in front: the byte that they stand for, and their length
 abbrev pub octal_at : List ℕ → Option (ℕ × ℕ)
-octal_at (h ∷ m ∷ l ∷ rest) = option_map (λ b. (b, 4)) (octal_value h m l)
+octal_at (h ∷ m ∷ l ∷ rest) = option_map (λ b. (b, 4)) (octal_byte h m l)
 octal_at _ = None
 
--- the escape of a backslash in front of these bytes: the byte that it means, and its length
+-- the same, from what the first of these bytes stands for by itself
+abbrev pub escape_from : Option ℕ → List ℕ → Option (ℕ × ℕ)
+escape_from (Some b) bytes = Some (b, 2)
+escape_from None bytes = octal_at bytes
+
+-- the escape of a backslash in front of these bytes: the byte that it stands for, and its length
 abbrev pub escape_at : List ℕ → Option (ℕ × ℕ)
 escape_at [] = None
-escape_at (b ∷ rest) = if b == 34 then Some (34, 2)
-    else (if b == 92 then Some (92, 2)
-    else (if b == 110 then Some (10, 2)
-    else (if b == 116 then Some (9, 2)
-    else (if b == 114 then Some (13, 2) else octal_at (b ∷ rest)))))
+escape_at (b ∷ rest) = escape_from (short_escape b) (b ∷ rest)
 
--- the first part of quoted bytes: the byte that it means, and its length
+-- the first piece of quoted bytes: the byte that it stands for, and its length
 abbrev pub part_at : List ℕ → Option (ℕ × ℕ)
 part_at [] = None
 part_at (b ∷ rest) = if b == 34 then None else (if b == 92 then escape_at rest else Some (b, 1))

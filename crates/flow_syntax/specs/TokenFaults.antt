@@ -1,13 +1,14 @@
 -- Where bytes are no text of tokens.
 use Rattle.std.specs.Prelude.{◌≡◌, ◌≢◌, ℕ, ◌+◌, ◌<◌, List, ◌∷◌, ◌++◌, length, codes, IsTrue, Option, Result, Ok, Err, IsUtf8}
 use Rattle.std.specs.Char.{IsScalar, encode_utf8}
+use Rattle.quoted_text.specs.Quotes.{IsPiece, IsInside}
 use Rattle.flow_syntax.specs.declared.lexer.refusal.LexFaultKind.{LexFaultKind}
 use Rattle.flow_syntax.specs.declared.lexer.refusal.LexFaultKind.TheVariants as faults
 use Rattle.flow_syntax.specs.declared.lexer.refusal.LexRefusal.{LexRefusal}
 use Rattle.flow_syntax.specs.declared.lexer.refusal.LexRefusal.TheVariants as refusals
 use Rattle.flow_syntax.specs.declared.token.Token.{Token}
 use Rattle.flow_syntax.specs.declared.token.TokenKind.{TokenKind}
-use Rattle.flow_syntax.specs.Tokens.{is_blank, IsPart, Spells, IsLexeme, IsLongest, IsTooLarge, IsPassed}
+use Rattle.flow_syntax.specs.Tokens.{is_blank, IsLexeme, IsLongest, IsTooLarge, IsPassed}
 
 -- No character begins these bytes.
 abbrev pub BeginsNoCharacter : List ℕ → Type 0
@@ -17,9 +18,9 @@ BeginsNoCharacter bytes = (c : ℕ) (after : List ℕ) → IsScalar c → bytes 
 abbrev pub BeginsNoToken : List ℕ → Type 0
 BeginsNoToken bytes = (text after : List ℕ) (kind : TokenKind) → bytes ≡ text ++ after → ¬ IsLexeme text kind
 
--- No part of a quoted text begins these bytes.
-abbrev pub BeginsNoPart : List ℕ → Type 0
-BeginsNoPart bytes = (text after : List ℕ) (b : ℕ) → bytes ≡ text ++ after → ¬ IsPart text b
+-- No piece of a quoted text begins these bytes.
+abbrev pub BeginsNoPiece : List ℕ → Type 0
+BeginsNoPiece bytes = (text after : List ℕ) (b : ℕ) → bytes ≡ text ++ after → ¬ IsPiece text b
 
 -- A fault stands so many bytes behind a place where a blank, a comment or a token is to begin:
 pub data IsFaultAt (bytes : List ℕ) : ℕ → LexFaultKind → Type 0 where
@@ -27,9 +28,9 @@ pub data IsFaultAt (bytes : List ℕ) : ℕ → LexFaultKind → Type 0 where
   bad_character : (b : ℕ) (rest : List ℕ) → bytes ≡ b ∷ rest → ¬ IsTrue (is_blank b) → b ≢ 34 → ((after : List ℕ) → bytes ≢ codes "//" ++ after) → BeginsNoToken bytes
       → IsFaultAt bytes 0 faults.BadCharacter
   -- a backslash that begins no escape, in a quoted text
-  bad_escape : (inside rest value : List ℕ) → bytes ≡ 34 ∷ inside ++ 92 ∷ rest → Spells inside value → BeginsNoPart (92 ∷ rest) → IsFaultAt bytes (length inside + 1) faults.BadEscape
+  bad_escape : (inside rest value : List ℕ) → bytes ≡ 34 ∷ inside ++ 92 ∷ rest → IsInside inside value → BeginsNoPiece (92 ∷ rest) → IsFaultAt bytes (length inside + 1) faults.BadEscape
   -- the quote of a quoted text that doesn't end
-  unclosed : (inside value : List ℕ) → bytes ≡ 34 ∷ inside → Spells inside value → IsFaultAt bytes 0 faults.Unclosed
+  unclosed : (inside value : List ℕ) → bytes ≡ 34 ∷ inside → IsInside inside value → IsFaultAt bytes 0 faults.Unclosed
   -- the first digit of an integer that is too large
   int_range : (text rest : List ℕ) (kind : TokenKind) → bytes ≡ text ++ rest → IsLongest text kind bytes → IsTooLarge text → IsFaultAt bytes 0 faults.IntRange
 

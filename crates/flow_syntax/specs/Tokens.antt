@@ -1,8 +1,9 @@
 -- Texts as tokens.
-use Rattle.std.specs.Prelude.{◌≡◌, ◌≢◌, ℕ, ◌+◌, ◌*◌, ◌<◌, ◌≤◌, ◌==◌, ◌||◌, Bool, IsTrue, List, [], ◌∷◌, ◌++◌, length, codes, Contains, Option, Some, None, pos, IsUtf8}
+use Rattle.std.specs.Prelude.{◌≡◌, ℕ, ◌+◌, ◌<◌, ◌≤◌, ◌==◌, ◌||◌, Bool, IsTrue, List, [], ◌∷◌, ◌++◌, length, codes, Contains, Option, Some, None, pos, IsUtf8}
 use Rattle.std.specs.Char.{is_ascii_alphabetic, is_ascii_alphanumeric}
 use Rattle.std.specs.List.{list_all}
 use Rattle.std.specs.Str.Parse.{IsNumeral, digits_value}
+use Rattle.quoted_text.specs.Quotes.{IsQuoted}
 use Rattle.flow_syntax.specs.declared.token.Token.{Token}
 use Rattle.flow_syntax.specs.declared.token.TokenKind.{TokenKind}
 use Rattle.flow_syntax.specs.declared.token.TokenKind.TheVariants as kinds
@@ -32,28 +33,6 @@ abbrev pub IsName : List ℕ → Type 0
 IsName [] = ⊥
 IsName (b ∷ bs) = IsTrue (is_ascii_alphabetic b) × IsTrue (list_all is_name_byte bs)
 
--- A part of a quoted text stands for a byte:
-pub data IsPart (text : List ℕ) : ℕ → Type 0 where
-  -- a byte other than `"` and `\` for itself
-  plain : (b : ℕ) → b ≢ 34 → b ≢ 92 → text ≡ b ∷ [] → IsPart text b
-  -- `\"`
-  quote : text ≡ codes "\\\"" → IsPart text 34
-  -- `\\`
-  backslash : text ≡ codes "\\\\" → IsPart text 92
-  -- `\n`
-  line_feed : text ≡ codes "\\n" → IsPart text 10
-  -- `\t`
-  tab : text ≡ codes "\\t" → IsPart text 9
-  -- `\r`
-  carriage_return : text ≡ codes "\\r" → IsPart text 13
-  -- a backslash and three octal digits, for an ASCII character
-  octal : (h m l : ℕ) → h < 8 → m < 8 → l < 8 → text ≡ 92 ∷ (48 + h) ∷ (48 + m) ∷ (48 + l) ∷ [] → h * 64 + m * 8 + l < 128 → IsPart text (h * 64 + m * 8 + l)
-
--- The inside of a quoted text stands for these bytes, part by part.
-pub data Spells : List ℕ → List ℕ → Type 0 where
-  nothing : Spells [] []
-  part : {text value : List ℕ} (first rest : List ℕ) (b : ℕ) → text ≡ first ++ rest → IsPart first b → Spells rest value → Spells text (b ∷ value)
-
 -- The text is a token of this kind:
 pub data IsLexeme (text : List ℕ) : TokenKind → Type 0 where
   -- a name that is no reserved word
@@ -65,7 +44,7 @@ pub data IsLexeme (text : List ℕ) : TokenKind → Type 0 where
   -- one or more decimal digits
   number : IsNumeral 10 text → IsLexeme text (kinds.Number (pos (digits_value 10 text)))
   -- a quoted text
-  quoted : (inside value : List ℕ) → text ≡ 34 ∷ inside ++ 34 ∷ [] → Spells inside value → IsLexeme text (kinds.Quoted value)
+  quoted : (value : List ℕ) → IsQuoted text value → IsLexeme text (kinds.Quoted value)
 
 -- The text is a token of this kind, and none that these bytes begin with is longer.
 pub record IsLongest (text : List ℕ) (kind : TokenKind) (bytes : List ℕ) : Type 0 where

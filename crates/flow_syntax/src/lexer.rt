@@ -15,6 +15,7 @@ mod refusal;
 use crate::token::{Token, TokenKind};
 use crate::words::is_reserved;
 use flow_term::{List, Text};
+pub use piece::is_name_byte;
 use piece::{Piece, first_piece};
 use quoted::read_quoted;
 pub use refusal::{LexFaultKind, LexRefusal};

@@ -19,7 +19,7 @@ mod words;
 pub use edit::EditRefusal;
 pub use expr::{ArithOp, CompareOp, Expr, ExprKind, SetOp, Side};
 pub use fault::SpecFaultKind;
-pub use lexer::{LexFaultKind, LexRefusal, lex};
+pub use lexer::{LexFaultKind, LexRefusal, is_name_byte, lex};
 pub use message::{Level, Message, Part};
 pub use pattern::{Pattern, PatternKind};
 pub use property::{Direction, Mode, PropDecl, PropRule, Trigger};

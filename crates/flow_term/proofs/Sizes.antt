@@ -15,19 +15,19 @@ term_step t = 1 + t.kind + sum t.annos
 abbrev kind_size : Kind → ℕ
 kind_size = fold-Kind ℕ ℕ kind_step term_step
 
--- what stands in place of the parts is the parts' sizes
-parts_sized : (x : Kind-F Kind Term) → sum (parts (map-Kind Kind Term ℕ ℕ kind_size term_size x)) ≡ sum_by term_size (parts x)
-parts_sized (Kind-F.Apply name args) = sum-map term_size args
-parts_sized (Kind-F.Tuple items) = sum-map term_size items
-parts_sized (Kind-F.Items items) = sum-map term_size items
-parts_sized (Kind-F.Int n) = refl
-parts_sized (Kind-F.Str text) = refl
+-- where a number stands in place of each part, the sum is that of the parts
+parts_summed : (f : Kind → ℕ) (g : Term → ℕ) (x : Kind-F Kind Term) → sum (parts (map-Kind Kind Term ℕ ℕ f g x)) ≡ sum_by g (parts x)
+parts_summed f g (Kind-F.Apply name args) = sum-map g args
+parts_summed f g (Kind-F.Tuple items) = sum-map g items
+parts_summed f g (Kind-F.Items items) = sum-map g items
+parts_summed f g (Kind-F.Int n) = refl
+parts_summed f g (Kind-F.Str text) = refl
 
 -- a term's size is by its children's and its annotations'
 pub term_size_out : (t : Term) → term_size t ≡ 1 + sum_by term_size (children t) + sum_by term_size (out-Term t).annos
 term_size_out t =
     fold_out-Term ℕ ℕ kind_step term_step t
-    ∙ ap (λ k. 1 + k + sum (map term_size (out-Term t).annos)) (fold_out-Kind ℕ ℕ kind_step term_step (out-Term t).kind ∙ parts_sized (out-Kind (out-Term t).kind))
+    ∙ ap (λ k. 1 + k + sum (map term_size (out-Term t).annos)) (fold_out-Kind ℕ ℕ kind_step term_step (out-Term t).kind ∙ parts_summed kind_size term_size (out-Kind (out-Term t).kind))
     ∙ ap (λ n. 1 + sum_by term_size (children t) + n) (sum-map term_size (out-Term t).annos)
 
 abbrev position_step : Term-F ℕ ℕ → ℕ
@@ -36,18 +36,11 @@ position_step t = 1 + t.kind
 abbrev kind_positions : Kind → ℕ
 kind_positions = fold-Kind ℕ ℕ kind_step position_step
 
-parts_counted : (x : Kind-F Kind Term) → sum (parts (map-Kind Kind Term ℕ ℕ kind_positions position_count x)) ≡ sum_by position_count (parts x)
-parts_counted (Kind-F.Apply name args) = sum-map position_count args
-parts_counted (Kind-F.Tuple items) = sum-map position_count items
-parts_counted (Kind-F.Items items) = sum-map position_count items
-parts_counted (Kind-F.Int n) = refl
-parts_counted (Kind-F.Str text) = refl
-
 -- a term's positions are itself and those of its children
 pub position_count_out : (t : Term) → position_count t ≡ 1 + sum_by position_count (children t)
 position_count_out t =
     fold_out-Term ℕ ℕ kind_step position_step t
-    ∙ ap (λ k. 1 + k) (fold_out-Kind ℕ ℕ kind_step position_step (out-Term t).kind ∙ parts_counted (out-Kind (out-Term t).kind))
+    ∙ ap (λ k. 1 + k) (fold_out-Kind ℕ ℕ kind_step position_step (out-Term t).kind ∙ parts_summed kind_positions position_count (out-Kind (out-Term t).kind))
 
 abbrev greatest_step : Kind-F ℕ ℕ → ℕ
 greatest_step kind = greatest (parts kind)

@@ -1,7 +1,7 @@
 -- What an accepted specification has: its items are placed, its heads are applications and look no deeper than they may.
 use Rattle.std.proofs.Common.{◌≡◌, Bool, true, false, IsTrue, ◌++◌, map, Option, Some, None, refl, sym, ap, ◌∙◌}
 use Rattle.std.specs.Prelude.{Contains, option_map}
-use Rattle.std.proofs.lemmas.List.Elements.{Contains-append_left}
+use Rattle.std.proofs.lemmas.List.Elements.{Contains-append_left, Contains-append_right}
 use Rattle.std.proofs.lemmas.Option.{slice_get-map}
 use Rattle.flow_term.specs.declared.term.Term.{Term}
 use Rattle.flow_term.specs.declared.term.Kind.TheOpen.{Kind-F}
@@ -21,27 +21,38 @@ use Rattle.flow_syntax.specs.Matching.{PatternLayer, pattern_layer, is_apply, is
 use Rattle.flow_syntax.specs.RuleFaults.{looks_deep, patterns_of, pattern_depth, wrong_end}
 use Rattle.flow_syntax.proofs.Listed.{at_in, in_at}
 use Rattle.flow_syntax.proofs.Matches.{found_among, found_passes, matches_out, tests_of}
-use Rattle.graph_laws.specs.Laws.{HeadsAreShallow, ItemsArePlaced, ListsHaveNoRule}
+use Rattle.graph_laws.specs.Laws.{HeadsAreShallow, ItemsArePlaced, ListsHaveNoRule, PatternsAreShallow}
 
 -- an item where it can't stand would be a fault
 pub items_placed : ItemsArePlaced
 items_placed spec faultless r of_spec chain of_rule k it at misplaced = faultless it.place kinds.WrongEnd (rule (wrong_end r chain k it of_spec of_rule at misplaced refl))
 
--- the head of a rule is one of the specification's patterns
-head_among : (spec : Spec) (r : FlowRule) → Contains spec.control r → Contains (patterns_of spec) r.head
+-- the head of a control rule is one of the specification's patterns
+pub head_among : (spec : Spec) (r : FlowRule) → Contains spec.control r → Contains (patterns_of spec) r.head
 head_among spec r of_spec =
     let at = in_at spec.control r of_spec in
     Contains-append_left (map (λ (v : FlowRule). v.head) spec.control ++ map (λ (v : PropRule). trigger_pattern v.trigger) spec.rules) (map (λ (m : Message). m.pattern) spec.messages) r.head
     (Contains-append_left (map (λ (v : FlowRule). v.head) spec.control) (map (λ (v : PropRule). trigger_pattern v.trigger) spec.rules) r.head
     (at_in (map (λ (v : FlowRule). v.head) spec.control) at.0 r.head (slice_get-map (λ (v : FlowRule). v.head) spec.control at.0 ∙ ap (option_map (λ (v : FlowRule). v.head)) at.1)))
 
+-- and so is the pattern of a rule of a property
+pub rule_among : (spec : Spec) (r : PropRule) → Contains spec.rules r → Contains (patterns_of spec) (trigger_pattern r.trigger)
+rule_among spec r of_spec =
+    let at = in_at spec.rules r of_spec in
+    Contains-append_left (map (λ (v : FlowRule). v.head) spec.control ++ map (λ (v : PropRule). trigger_pattern v.trigger) spec.rules) (map (λ (m : Message). m.pattern) spec.messages) (trigger_pattern r.trigger)
+    (Contains-append_right (map (λ (v : FlowRule). v.head) spec.control) (map (λ (v : PropRule). trigger_pattern v.trigger) spec.rules) (trigger_pattern r.trigger)
+    (at_in (map (λ (v : PropRule). trigger_pattern v.trigger) spec.rules) at.0 (trigger_pattern r.trigger) (slice_get-map (λ (v : PropRule). trigger_pattern v.trigger) spec.rules at.0 ∙ ap (option_map (λ (v : PropRule). trigger_pattern v.trigger)) at.1)))
+
 -- one that looks too deep would be a fault
-pub heads_shallow : HeadsAreShallow
-heads_shallow spec faultless r of_spec = by_cases (looks_deep r.head 0) refl
+pub patterns_shallow : PatternsAreShallow
+patterns_shallow spec faultless p of_spec = by_cases (looks_deep p 0) refl
   where
-    by_cases : (b : Bool) → looks_deep r.head 0 ≡ b → looks_deep r.head 0 ≡ false
+    by_cases : (b : Bool) → looks_deep p 0 ≡ b → looks_deep p 0 ≡ false
     by_cases false e = e
-    by_cases true e = absurd (faultless (out-Pattern r.head).place kinds.Depth (rule (pattern_depth r.head (head_among spec r of_spec) e refl)))
+    by_cases true e = absurd (faultless (out-Pattern p).place kinds.Depth (rule (pattern_depth p of_spec e refl)))
+
+pub heads_shallow : HeadsAreShallow
+heads_shallow spec faultless r of_spec = patterns_shallow spec faultless r.head (head_among spec r of_spec)
 
 -- an application matches no list
 applied_or_list : (x : PatternLayer) (t : Term) (y : TermLayer) → term_layer t ≡ y → IsTrue (is_application x) → match_layer (tests_of x) t ≡ true → IsTrue (is_list y) → ⊥

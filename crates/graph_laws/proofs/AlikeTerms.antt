@@ -20,7 +20,7 @@ use Rattle.flow_syntax.proofs.Listed.{Contains_behind, Contains_here}
 use Rattle.flow_syntax.proofs.Matches.{matches_out, tests_of}
 use Rattle.graph_laws.specs.Alike.{AreAlike}
 use Rattle.graph_laws.specs.Laws.{AlikeTermsMatchAlike, FarRulesStay, ReplacementsLeaveAlike}
-use Rattle.graph_laws.proofs.Depths.{deep_layer, looks_deep_out}
+use Rattle.flow_syntax.proofs.PatternDepths.{deep_layer, looks_deep_out}
 use Rattle.graph_laws.proofs.Replaced.{Replaced, annos_with, children_replaced, layer_with, list_with, put_at}
 
 -- ** a replacement leaves alike what is above it
@@ -64,28 +64,28 @@ replaced_alike t (n ∷ rest) new = by_child (λ c. replaced_alike c rest new) (
 -- ** what patterns tell apart
 
 -- what a layer is, its parts aside
-apply_with : (name : List ℕ) (y : TermLayer) (us : List Term) → is_apply name (with_parts y us) ≡ is_apply name y
+pub apply_with : (name : List ℕ) (y : TermLayer) (us : List Term) → is_apply name (with_parts y us) ≡ is_apply name y
 apply_with name (Kind-F.Apply other args) us = refl
 apply_with name (Kind-F.Tuple items) us = refl
 apply_with name (Kind-F.Items items) us = refl
 apply_with name (Kind-F.Int k) us = refl
 apply_with name (Kind-F.Str text) us = refl
 
-tuple_with : (y : TermLayer) (us : List Term) → is_tuple (with_parts y us) ≡ is_tuple y
+pub tuple_with : (y : TermLayer) (us : List Term) → is_tuple (with_parts y us) ≡ is_tuple y
 tuple_with (Kind-F.Apply other args) us = refl
 tuple_with (Kind-F.Tuple items) us = refl
 tuple_with (Kind-F.Items items) us = refl
 tuple_with (Kind-F.Int k) us = refl
 tuple_with (Kind-F.Str text) us = refl
 
-text_with : (y : TermLayer) (us : List Term) → text_in (with_parts y us) ≡ text_in y
+pub text_with : (y : TermLayer) (us : List Term) → text_in (with_parts y us) ≡ text_in y
 text_with (Kind-F.Apply other args) us = refl
 text_with (Kind-F.Tuple items) us = refl
 text_with (Kind-F.Items items) us = refl
 text_with (Kind-F.Int k) us = refl
 text_with (Kind-F.Str text) us = refl
 
-number_with : (y : TermLayer) (us : List Term) → number_in (with_parts y us) ≡ number_in y
+pub number_with : (y : TermLayer) (us : List Term) → number_in (with_parts y us) ≡ number_in y
 number_with (Kind-F.Apply other args) us = refl
 number_with (Kind-F.Tuple items) us = refl
 number_with (Kind-F.Items items) us = refl
@@ -93,21 +93,21 @@ number_with (Kind-F.Int k) us = refl
 number_with (Kind-F.Str text) us = refl
 
 -- how many names hold one another at the root of a pattern
-abbrev holds_layer : PatternKind-F ℕ ℕ → ℕ
+abbrev pub holds_layer : PatternKind-F ℕ ℕ → ℕ
 holds_layer (PatternKind-F.Held x p) = suc p
 holds_layer layer = 0
 
-abbrev holds : Pattern → ℕ
+abbrev pub holds : Pattern → ℕ
 holds = fold-Pattern ℕ ℕ holds_layer (λ p. p.kind)
 
-abbrev held_in : PatternLayer → PatternKind-F ℕ ℕ
+abbrev pub held_in : PatternLayer → PatternKind-F ℕ ℕ
 held_in = map-PatternKind PatternKind Pattern ℕ ℕ (fold-PatternKind ℕ ℕ holds_layer (λ p. p.kind)) holds
 
-holds_out : (p : Pattern) → holds p ≡ holds_layer (held_in (pattern_layer p))
+pub holds_out : (p : Pattern) → holds p ≡ holds_layer (held_in (pattern_layer p))
 holds_out p = fold_out-Pattern ℕ ℕ holds_layer (λ p. p.kind) p ∙ fold_out-PatternKind ℕ ℕ holds_layer (λ p. p.kind) (out-Pattern p).kind
 
 -- a level is above 8 and isn't
-too_deep : (level : ℕ) → 8 < level → (b : Bool) → (nat_lt pattern_limit level || b) ≡ false → ⊥
+pub too_deep : (level : ℕ) → 8 < level → (b : Bool) → (nat_lt pattern_limit level || b) ≡ false → ⊥
 too_deep level above b h = both_ways (nat_lt pattern_limit level) (or_parts (nat_lt pattern_limit level) b h).0 (grind (arith, nat_tests))
 
 -- what doesn't look too deep, on a level that is too deep, doesn't look
@@ -142,28 +142,28 @@ fits n below (p ∷ ps) level (t ∷ ts) (u ∷ us) alike flat above =
     ap (λ (b : Bool). b && fit (map matches ps) us) (below p (level + 1) t u parts.0 (omega (arith, above)) alike.0)
     ∙ ap (λ (b : Bool). matches p t && b) (fits n below ps level ts us alike.1 parts.1 above)
 
-module _ (n : ℕ) (below : AreOne n) (t u : Term) (alike : AreAlike (suc n) t u) where
-  -- what doesn't see the parts of a layer is one of both
-  form_same : {A : Type 0} (f : TermLayer → A) → ((y : TermLayer) (us : List Term) → f (with_parts y us) ≡ f y) → f (term_layer u) ≡ f (term_layer t)
-  form_same f blind_to = sym (blind_to (term_layer u) []) ∙ ap f alike.1 ∙ blind_to (term_layer t) []
+-- what doesn't see the parts of a layer is one of both
+pub form_same : (n : ℕ) (t u : Term) → AreAlike (suc n) t u → {A : Type 0} (f : TermLayer → A) → ((y : TermLayer) (us : List Term) → f (with_parts y us) ≡ f y) → f (term_layer u) ≡ f (term_layer t)
+form_same n t u alike f blind_to = sym (blind_to (term_layer u) []) ∙ ap f alike.1 ∙ blind_to (term_layer t) []
 
+module _ (n : ℕ) (below : AreOne n) (t u : Term) (alike : AreAlike (suc n) t u) where
   at_layer : (fuel : ℕ) → ((p : Pattern) (level : ℕ) → holds p < fuel → looks_deep p level ≡ false → 8 < level + suc n → matches p u ≡ matches p t)
       → (x : PatternLayer) (level : ℕ) → holds_layer (held_in x) < suc fuel → deep_layer x level ≡ false → 8 < level + suc n → match_layer (tests_of x) u ≡ match_layer (tests_of x) t
   at_layer fuel held PatternKind-F.Wild level few flat above = refl
   at_layer fuel held (PatternKind-F.Var x) level few flat above = refl
   at_layer fuel held (PatternKind-F.NameVar x) level few flat above = ap (λ (as' : List Term). is_some (first_of_list (filter_map (λ a. name_in (term_layer a)) as'))) alike.0
-  at_layer fuel held (PatternKind-F.StrVar x) level few flat above = ap is_some (form_same text_in text_with)
-  at_layer fuel held (PatternKind-F.IntVar x) level few flat above = ap is_some (form_same number_in number_with)
-  at_layer fuel held (PatternKind-F.IntLit m) level few flat above = ap (λ o. option_map_or (int_eq m) o false) (form_same number_in number_with)
-  at_layer fuel held (PatternKind-F.StrLit s) level few flat above = ap (λ o. option_map_or (bytes_eq s) o false) (form_same text_in text_with)
+  at_layer fuel held (PatternKind-F.StrVar x) level few flat above = ap is_some (form_same n t u alike text_in text_with)
+  at_layer fuel held (PatternKind-F.IntVar x) level few flat above = ap is_some (form_same n t u alike number_in number_with)
+  at_layer fuel held (PatternKind-F.IntLit m) level few flat above = ap (λ o. option_map_or (int_eq m) o false) (form_same n t u alike number_in number_with)
+  at_layer fuel held (PatternKind-F.StrLit s) level few flat above = ap (λ o. option_map_or (bytes_eq s) o false) (form_same n t u alike text_in text_with)
   at_layer fuel held (PatternKind-F.Apply name ps) level few flat above =
-      ap (λ b. b && fit (map matches ps) (children u)) (form_same (is_apply name) (apply_with name))
+      ap (λ b. b && fit (map matches ps) (children u)) (form_same n t u alike (is_apply name) (apply_with name))
       ∙ ap (λ b. is_apply name (term_layer t) && b) (fits n below ps level (children t) (children u) alike.2 (or_parts (nat_lt pattern_limit level) _ flat).1 above)
   at_layer fuel held (PatternKind-F.Tuple ps) level few flat above =
-      ap (λ b. b && fit (map matches ps) (children u)) (form_same is_tuple tuple_with)
+      ap (λ b. b && fit (map matches ps) (children u)) (form_same n t u alike is_tuple tuple_with)
       ∙ ap (λ b. is_tuple (term_layer t) && b) (fits n below ps level (children t) (children u) alike.2 (or_parts (nat_lt pattern_limit level) _ flat).1 above)
   at_layer fuel held (PatternKind-F.Items ps) level few flat above =
-      ap (λ b. b && fit (map matches ps) (children u)) (form_same is_list list_with)
+      ap (λ b. b && fit (map matches ps) (children u)) (form_same n t u alike is_list list_with)
       ∙ ap (λ b. is_list (term_layer t) && b) (fits n below ps level (children t) (children u) alike.2 (or_parts (nat_lt pattern_limit level) _ flat).1 above)
   at_layer fuel held (PatternKind-F.Held x p) level few flat above = held p level (omega (arith, few)) (or_parts (nat_lt pattern_limit level) _ flat).1 above
 

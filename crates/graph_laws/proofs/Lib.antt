@@ -1,9 +1,9 @@
 pub mod Accepted
+pub mod AlikeBindings
 pub mod AlikeTerms
 pub mod Ancestors
 pub mod Apart
 pub mod ChildChanges
-pub mod Depths
 pub mod EdgeWays
 pub mod Elsewhere
 pub mod ListPositions

@@ -14,12 +14,14 @@ use Rattle.flow_syntax.specs.Faults.{HasNoFault}
 use Rattle.flow_syntax.specs.Graph.{IsEdge, IsInner, point_of}
 use Rattle.flow_syntax.specs.Matching.{is_list, matches}
 use Rattle.flow_syntax.specs.RuleFaults.{looks_deep, pattern_limit}
+use Rattle.flow_match.specs.Bindings.{bindings_at}
+use Rattle.flow_match.specs.Matched.{matched}
 use Rattle.way_theory.specs.Hops.{Arrives}
 use Rattle.way_theory.specs.Lists.{IsBetween, IsFirstFrom, IsLastBefore, IsPassedFrom}
 use Rattle.way_theory.specs.Ways.{Way}
 use Rattle.graph_laws.specs.Alike.{AreAlike}
 use Rattle.graph_laws.specs.Replacements.{AreAsunder, IsNodeOutside, IsOwnedOutside, NearRulesStay, RulesStay, SameWays}
-use Rattle.graph_laws.specs.Owners.{HasPlacedItems, HasShallowHeads, IsOwned, Owns}
+use Rattle.graph_laws.specs.Owners.{HasPlacedItems, HasShallowHeads, HasShallowPatterns, IsOwned, Owns}
 use Rattle.graph_laws.specs.Parts.{Exit, onward, HasFirst, HasLast, IsPassed, child_entry, child_exit, child_first, child_last, child_passes, exit_at, own_links, own_steps}
 
 -- The edges of a tree are exactly those that its positions own.
@@ -65,6 +67,10 @@ ItemsArePlaced = (spec : Spec) → HasNoFault spec → HasPlacedItems spec
 abbrev pub HeadsAreShallow : Type 0
 HeadsAreShallow = (spec : Spec) → HasNoFault spec → HasShallowHeads spec
 
+-- Nor does any other pattern.
+abbrev pub PatternsAreShallow : Type 0
+PatternsAreShallow = (spec : Spec) → HasNoFault spec → HasShallowPatterns spec
+
 -- Where all heads are applications, no rule matches a list.
 abbrev pub ListsHaveNoRule : Type 0
 ListsHaveNoRule = (spec : Spec) → HasAppliedHeads spec → (t : Term) → IsTrue (is_list (term_layer t)) → rule_for spec t ≡ None
@@ -82,6 +88,14 @@ AlikeTermsMatchAlike = (p : Pattern) (level n : ℕ) (t u : Term) → looks_deep
 -- A replacement nine or more levels below a term leaves its matching rule.
 abbrev pub FarRulesStay : Type 0
 FarRulesStay = (spec : Spec) → HasShallowHeads spec → (t new : Term) (path : List ℕ) → pattern_limit < length path → rule_for spec (Put t path new) ≡ rule_for spec t
+
+-- Nor does such a pattern bind otherwise at them.
+abbrev pub AlikeTermsBindAlike : Type 0
+AlikeTermsBindAlike = (p : Pattern) (level n : ℕ) (t u : Term) (path : List ℕ) → looks_deep p level ≡ false → pattern_limit < level + n → AreAlike n t u → bindings_at p u path ≡ bindings_at p t path
+
+-- A replacement nine or more levels below a position leaves all that matches there: its control rule, and the rules of properties with what they bind.
+abbrev pub FarMatchesStay : Type 0
+FarMatchesStay = (spec : Spec) → HasShallowPatterns spec → (t new : Term) (rest path : List ℕ) → pattern_limit < length rest → matched spec (Put t rest new) path ≡ matched spec t path
 
 -- A position that is neither above nor below a replacement has the term that it had, and so its rule, and is entered as it was.
 abbrev pub PositionsStayElsewhere : Type 0

@@ -16,7 +16,10 @@ pub use edges::{
     positions_are_known_by_steps, steps_are_hops,
 };
 pub use replacements::{
-    alike_terms_match_alike, far_rules_stay, near_rules_suffice, nodes_outside_stay,
-    owned_outside_stays, positions_stay_elsewhere, replacements_in_parts, replacements_leave_alike,
+    alike_terms_bind_alike, alike_terms_match_alike, far_matches_stay, far_rules_stay,
+    near_rules_suffice, nodes_outside_stay, owned_outside_stays, positions_stay_elsewhere,
+    replacements_in_parts, replacements_leave_alike,
 };
-pub use specifications::{heads_are_shallow, items_are_placed, lists_have_no_rule};
+pub use specifications::{
+    heads_are_shallow, items_are_placed, lists_have_no_rule, patterns_are_shallow,
+};

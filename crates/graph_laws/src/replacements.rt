@@ -1,5 +1,5 @@
 //! What a replacement in a tree leaves.
-ghost use Rattle.graph_laws.specs.Laws.{AlikeTermsMatchAlike, FarRulesStay, NearRulesSuffice, NodesOutsideStay, OwnedOutsideStays, PositionsStayElsewhere, ReplacementsInParts, ReplacementsLeaveAlike};
+ghost use Rattle.graph_laws.specs.Laws.{AlikeTermsBindAlike, AlikeTermsMatchAlike, FarMatchesStay, FarRulesStay, NearRulesSuffice, NodesOutsideStay, OwnedOutsideStays, PositionsStayElsewhere, ReplacementsInParts, ReplacementsLeaveAlike};
 
 /// A replacement leaves a term as it was on all levels above the one that it replaces.
 pub fn replacements_leave_alike()
@@ -11,9 +11,19 @@ pub fn alike_terms_match_alike()
     ensures { AlikeTermsMatchAlike }
 {}
 
+/// What a pattern binds at both is the same as well, where both stand at one path.
+pub fn alike_terms_bind_alike()
+    ensures { AlikeTermsBindAlike }
+{}
+
 /// A position nine or more levels above a replacement keeps its matching rule.
 pub fn far_rules_stay()
     ensures { FarRulesStay }
+{}
+
+/// It keeps all that matches there, the rules of properties included, with what they bind.
+pub fn far_matches_stay()
+    ensures { FarMatchesStay }
 {}
 
 /// The rules above a replacement stay where those of the nearest eight positions do: so no other position above it has to be matched again.

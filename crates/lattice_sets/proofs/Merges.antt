@@ -2,6 +2,7 @@
 use Rattle.std.proofs.Common.{◌≡◌, Bool, true, false, cond, not, ◌||◌, ◌&&◌, List, [], ◌∷◌, ◌++◌, length, refl, sym, ap, ◌∙◌, subst, append_assoc, append-nil, arith, ◌↔◌, inl, inr}
 use Rattle.std.specs.declared.cmp.Ordering.{Ordering}
 use Rattle.std.specs.declared.cmp.Ordering.TheVariants.{Less, Equal, Greater}
+use Rattle.std.specs.Prelude.{if◌then◌else◌}
 use Rattle.std.specs.Ordering.{match_ordering, eq_by_cmp, is_eq}
 use Rattle.std.specs.Cmp.{IsTotalOrder, tied_itself}
 use Rattle.std.specs.List.{filter, list_all}
@@ -23,6 +24,34 @@ moved z done more left rest whole e f h = ap (λ d. d ++ rest) e ∙ append_asso
 -- the first item of what is left to do is left out
 pub passed : {E : Type 0} (done left rest whole : List E) → left ≡ rest → done ++ left ≡ whole → done ++ rest ≡ whole
 passed done left rest whole f h = ap (λ zs. done ++ zs) (sym f) ∙ h
+
+-- the first item of what is left to do is taken if it is wanted
+pub taken_if : {E : Type 0} (wanted : Bool) (z : E) (done more left rest whole : List E) → more ≡ done ++ (if wanted then z ∷ [] else []) → left ≡ cond wanted (z ∷ rest) rest → done ++ left ≡ whole → more ++ rest ≡ whole
+taken_if true z done more left rest whole e f h = moved z done more left rest whole e f h
+taken_if false z done more left rest whole e f h = ap (λ d. d ++ rest) (e ∙ append-nil done) ∙ ap (λ zs. done ++ zs) (sym f) ∙ h
+
+-- with true what holds, with false what doesn't
+abbrev pub agrees : Bool → Bool → Bool
+agrees true b = b
+agrees false b = not b
+
+-- the items of a that b has, or with false those that it lacks
+abbrev pub kept_of : {E : Type 0} → (E → E → Ordering) → Bool → List E → List E → List E
+kept_of R held a b = filter (λ x. agrees held (has_item R b x)) a
+
+-- what is lacking is what isn't held
+lacking : (held : Bool) → agrees held false ≡ not held
+lacking true = refl
+lacking false = refl
+
+holding : (held : Bool) → agrees held true ≡ held
+holding true = refl
+holding false = refl
+
+-- which of the two operations that is
+pub kept_is : {E : Type 0} (R : E → E → Ordering) (held : Bool) (a b : List E) → kept_of R held a b ≡ (if held then intersection_of R a b else difference_of R a b)
+kept_is R true a b = refl
+kept_is R false a b = refl
 
 -- whether each item of the second list is in the first
 abbrev pub includes_all : {E : Type 0} → (E → E → Ordering) → List E → List E → Bool
@@ -84,76 +113,58 @@ module _ {E : Type 0} (R : E → E → Ordering) (o : IsTotalOrder R) where
 
   -- -- what is kept of the first list by whether the second has it
 
-  abbrev kept : (Bool → Bool) → List E → List E → List E
-  kept p left right = filter (λ x. p (has_item R right x)) left
-
   pub none_below : (x : E) (ys : List E) → Above R x ys → has_item R ys x ≡ false
   none_below x [] h = refl
   none_below x (y ∷ ys) h = ap (λ r. is_eq r || has_item R ys x) h.0 ∙ none_below x ys h.1
 
   -- an item of the second list below all of the first has no say
-  kept_skip : (p : Bool → Bool) (y : E) (xs ys : List E) → Above R y xs → kept p xs (y ∷ ys) ≡ kept p xs ys
-  kept_skip p y [] ys h = refl
-  kept_skip p y (x ∷ xs) ys h =
-      ap (λ r. cond (p (is_eq r || has_item R ys x)) (x ∷ kept p xs (y ∷ ys)) (kept p xs (y ∷ ys))) (flip_less R o y x h.0)
-      ∙ ap (λ zs. cond (p (has_item R ys x)) (x ∷ zs) zs) (kept_skip p y xs ys h.1)
+  kept_skip : (held : Bool) (y : E) (xs ys : List E) → Above R y xs → kept_of R held xs (y ∷ ys) ≡ kept_of R held xs ys
+  kept_skip held y [] ys h = refl
+  kept_skip held y (x ∷ xs) ys h =
+      ap (λ r. cond (agrees held (is_eq r || has_item R ys x)) (x ∷ kept_of R held xs (y ∷ ys)) (kept_of R held xs (y ∷ ys))) (flip_less R o y x h.0)
+      ∙ ap (λ zs. cond (agrees held (has_item R ys x)) (x ∷ zs) zs) (kept_skip held y xs ys h.1)
 
-  kept_less : (p : Bool → Bool) (x y : E) (xs ys left right : List E) → left ≡ x ∷ xs → right ≡ y ∷ ys → IsStrictlySortedBy R right → R x y ≡ Less → kept p left right ≡ cond (p false) (x ∷ kept p xs right) (kept p xs right)
-  kept_less p x y xs ys left right e f h less = ap (λ l. kept p l right) e ∙ ap (λ b. cond (p b) (x ∷ kept p xs right) (kept p xs right)) (none_below x right (below_rising x y ys right f h less))
+  pub kept_less : (held : Bool) (x y : E) (xs ys left right : List E) → left ≡ x ∷ xs → right ≡ y ∷ ys → IsStrictlySortedBy R right → R x y ≡ Less
+      → kept_of R held left right ≡ cond (not held) (x ∷ kept_of R held xs right) (kept_of R held xs right)
+  kept_less held x y xs ys left right e f h less =
+      ap (λ l. kept_of R held l right) e ∙ ap (λ b. cond (agrees held b) (x ∷ kept_of R held xs right) (kept_of R held xs right)) (none_below x right (below_rising x y ys right f h less))
+      ∙ ap (λ b. cond b (x ∷ kept_of R held xs right) (kept_of R held xs right)) (lacking held)
 
-  kept_equal : (p : Bool → Bool) (x y : E) (xs ys left right : List E) → left ≡ x ∷ xs → right ≡ y ∷ ys → IsStrictlySortedBy R left → x ≡ y → kept p left right ≡ cond (p true) (x ∷ kept p xs ys) (kept p xs ys)
-  kept_equal p x y xs ys left right e f h same =
-      ap (λ l. kept p l right) e ∙ ap (kept p (x ∷ xs)) (f ∙ ap (λ z. z ∷ ys) (sym same))
-      ∙ ap (λ r. cond (p (is_eq r || has_item R ys x)) (x ∷ kept p xs (x ∷ ys)) (kept p xs (x ∷ ys))) (tied_itself o x)
-      ∙ ap (λ zs. cond (p true) (x ∷ zs) zs) (kept_skip p x xs ys (first_below x xs left e h))
+  pub kept_equal : (held : Bool) (x y : E) (xs ys left right : List E) → left ≡ x ∷ xs → right ≡ y ∷ ys → IsStrictlySortedBy R left → x ≡ y
+      → kept_of R held left right ≡ cond held (x ∷ kept_of R held xs ys) (kept_of R held xs ys)
+  kept_equal held x y xs ys left right e f h same =
+      ap (λ l. kept_of R held l right) e ∙ ap (kept_of R held (x ∷ xs)) (f ∙ ap (λ z. z ∷ ys) (sym same))
+      ∙ ap (λ r. cond (agrees held (is_eq r || has_item R ys x)) (x ∷ kept_of R held xs (x ∷ ys)) (kept_of R held xs (x ∷ ys))) (tied_itself o x)
+      ∙ ap (λ zs. cond (agrees held true) (x ∷ zs) zs) (kept_skip held x xs ys (first_below x xs left e h)) ∙ ap (λ b. cond b (x ∷ kept_of R held xs ys) (kept_of R held xs ys)) (holding held)
 
-  kept_greater : (p : Bool → Bool) (x y : E) (xs ys left right : List E) → left ≡ x ∷ xs → right ≡ y ∷ ys → IsStrictlySortedBy R left → R y x ≡ Less → kept p left right ≡ kept p left ys
-  kept_greater p x y xs ys left right e f h less = ap (kept p left) f ∙ kept_skip p y left ys (below_rising y x xs left e h less)
+  pub kept_greater : (held : Bool) (x y : E) (xs ys left right : List E) → left ≡ x ∷ xs → right ≡ y ∷ ys → IsStrictlySortedBy R left → R y x ≡ Less → kept_of R held left right ≡ kept_of R held left ys
+  kept_greater held x y xs ys left right e f h less = ap (kept_of R held left) f ∙ kept_skip held y left ys (below_rising y x xs left e h less)
 
-  kept_left_ended : (p : Bool → Bool) (left right : List E) → length left ≡ 0 → kept p left right ≡ []
-  kept_left_ended p left right e = ap (λ l. kept p l right) (empty_list left e)
+  -- where one of the lists has ended, nothing is held, and all that is left is lacking
+  kept_nothing : (held : Bool) (xs : List E) → kept_of R held xs [] ≡ (if held then [] else xs)
+  kept_nothing true [] = refl
+  kept_nothing false [] = refl
+  kept_nothing true (x ∷ xs) = kept_nothing true xs
+  kept_nothing false (x ∷ xs) = ap (λ zs. x ∷ zs) (kept_nothing false xs)
 
-  -- -- intersection
+  pub kept_right_ended : (held : Bool) (left right : List E) → length right ≡ 0 → kept_of R held left right ≡ (if held then [] else left)
+  kept_right_ended held left right e = ap (kept_of R held left) (empty_list right e) ∙ kept_nothing held left
 
-  pub intersection_less : (x y : E) (xs ys left right : List E) → left ≡ x ∷ xs → right ≡ y ∷ ys → IsStrictlySortedBy R right → R x y ≡ Less → intersection_of R left right ≡ intersection_of R xs right
-  intersection_less = kept_less (λ b. b)
+  kept_none : (held : Bool) (right : List E) → kept_of R held [] right ≡ (if held then [] else [])
+  kept_none true right = refl
+  kept_none false right = refl
 
-  pub intersection_equal : (x y : E) (xs ys left right : List E) → left ≡ x ∷ xs → right ≡ y ∷ ys → IsStrictlySortedBy R left → x ≡ y → intersection_of R left right ≡ x ∷ intersection_of R xs ys
-  intersection_equal = kept_equal (λ b. b)
+  pub kept_left_ended : (held : Bool) (left right : List E) → length left ≡ 0 → kept_of R held left right ≡ (if held then [] else left)
+  kept_left_ended held left right e = ap (λ l. kept_of R held l right) (empty_list left e) ∙ kept_none held right ∙ ap (λ (l : List E). if held then [] else l) (sym (empty_list left e))
 
-  pub intersection_greater : (x y : E) (xs ys left right : List E) → left ≡ x ∷ xs → right ≡ y ∷ ys → IsStrictlySortedBy R left → R y x ≡ Less → intersection_of R left right ≡ intersection_of R left ys
-  intersection_greater = kept_greater (λ b. b)
+  -- what is done is all that is held, and with what is left all that is lacking
+  pub kept_held : (held : Bool) (left right done whole : List E) → held ≡ true → kept_of R held left right ≡ (if held then [] else left) → done ++ kept_of R held left right ≡ whole → done ≡ whole
+  kept_held true left right done whole e n w = sym (append-nil done) ∙ ap (λ zs. done ++ zs) (sym n) ∙ w
+  kept_held false left right done whole e n w = cc
 
-  intersection_none : (xs : List E) → intersection_of R xs [] ≡ []
-  intersection_none [] = refl
-  intersection_none (x ∷ xs) = intersection_none xs
-
-  pub intersection_left_ended : (done left right whole : List E) → length left ≡ 0 → done ++ intersection_of R left right ≡ whole → done ≡ whole
-  intersection_left_ended done left right whole e w = sym (append-nil done) ∙ ap (λ zs. done ++ zs) (sym (kept_left_ended (λ b. b) left right e)) ∙ w
-
-  pub intersection_right_ended : (done left right whole : List E) → length right ≡ 0 → done ++ intersection_of R left right ≡ whole → done ≡ whole
-  intersection_right_ended done left right whole e w = sym (append-nil done) ∙ ap (λ zs. done ++ zs) (sym (ap (intersection_of R left) (empty_list right e) ∙ intersection_none left)) ∙ w
-
-  -- -- difference
-
-  pub difference_less : (x y : E) (xs ys left right : List E) → left ≡ x ∷ xs → right ≡ y ∷ ys → IsStrictlySortedBy R right → R x y ≡ Less → difference_of R left right ≡ x ∷ difference_of R xs right
-  difference_less = kept_less not
-
-  pub difference_equal : (x y : E) (xs ys left right : List E) → left ≡ x ∷ xs → right ≡ y ∷ ys → IsStrictlySortedBy R left → x ≡ y → difference_of R left right ≡ difference_of R xs ys
-  difference_equal = kept_equal not
-
-  pub difference_greater : (x y : E) (xs ys left right : List E) → left ≡ x ∷ xs → right ≡ y ∷ ys → IsStrictlySortedBy R left → R y x ≡ Less → difference_of R left right ≡ difference_of R left ys
-  difference_greater = kept_greater not
-
-  difference_none : (xs : List E) → difference_of R xs [] ≡ xs
-  difference_none [] = refl
-  difference_none (x ∷ xs) = ap (λ zs. x ∷ zs) (difference_none xs)
-
-  pub difference_left_ended : (done left right all whole : List E) → length left ≡ 0 → done ++ difference_of R left right ≡ whole → all ≡ done ++ left → all ≡ whole
-  difference_left_ended done left right all whole e w is = is ∙ ap (λ zs. done ++ zs) (empty_list left e ∙ sym (kept_left_ended not left right e)) ∙ w
-
-  pub difference_right_ended : (done left right all whole : List E) → length right ≡ 0 → done ++ difference_of R left right ≡ whole → all ≡ done ++ left → all ≡ whole
-  difference_right_ended done left right all whole e w is = is ∙ ap (λ zs. done ++ zs) (sym (ap (difference_of R left) (empty_list right e) ∙ difference_none left)) ∙ w
+  pub kept_lacking : (held : Bool) (left right done all whole : List E) → held ≡ false → kept_of R held left right ≡ (if held then [] else left) → done ++ kept_of R held left right ≡ whole → all ≡ done ++ left → all ≡ whole
+  kept_lacking false left right done all whole e n w is = is ∙ ap (λ zs. done ++ zs) (sym n) ∙ w
+  kept_lacking true left right done all whole e n w is = cc
 
   -- -- inclusion
 

@@ -1,5 +1,5 @@
 -- Where a binary search ends in a rising list, and what an insertion there leaves.
-use Rattle.std.proofs.Common.{◌≡◌, ℕ, suc, zero, ◌+◌, ◌<◌, ◌≤◌, List, [], ◌∷◌, length, get_or, Ok, Err, Result, refl, sym, ap, ◌∙◌, subst, inl, inr, arith}
+use Rattle.std.proofs.Common.{◌≡◌, ℕ, suc, zero, ◌+◌, ◌<◌, ◌≤◌, List, [], ◌∷◌, length, get_or, Ok, Err, Result, refl, sym, ap, ◌∙◌, inl, inr, arith}
 use Rattle.std.specs.Prelude.{Contains, insert}
 use Rattle.std.specs.declared.cmp.Ordering.{Ordering}
 use Rattle.std.specs.declared.cmp.Ordering.TheVariants.{Less, Equal, Greater}
@@ -58,13 +58,6 @@ module _ {E : Type 0} (R : E → E → Ordering) (o : IsTotalOrder R) (exact : (
         | inr same ↦ or_left (eq_by_cmp R y x) (has_item R xs y) (ap (eq_by_cmp R y) (sym same) ∙ ties_itself R o exact y)
       ]),
     );
-  }
-
-  -- where the item was there, nothing changes
-  pub inserted_present : (x : E) (xs : List E) → IsStrictlySortedBy R xs → Contains xs x → IsInserted R x xs xs
-  inserted_present x xs h there = record {
-    rising = h;
-    items = λ y. (λ c. inl c, λ e. elim e [ inl old ↦ old | inr same ↦ subst (Contains xs) (sym same) there ]);
   }
 
   -- what a binary search answers is the item's place

@@ -1,6 +1,6 @@
 -- Rising lists as sets: what the operations have, and that rising lists with the same items are equal.
 use Rattle.std.proofs.Common.{◌≡◌, Bool, true, false, not, ◌||◌, ◌&&◌, List, [], ◌∷◌, refl, sym, ap, ◌∙◌, inl, inr}
-use Rattle.std.specs.Prelude.{Contains}
+use Rattle.std.specs.Prelude.{Contains, ◌⊎◌, ◌↔◌}
 use Rattle.std.specs.declared.cmp.Ordering.{Ordering}
 use Rattle.std.specs.declared.cmp.Ordering.TheVariants.{Less, Equal, Greater}
 use Rattle.std.specs.Ordering.{eq_by_cmp, match_ordering, ordering_reverse}
@@ -152,18 +152,17 @@ module _ {E : Type 0} (R : E → E → Ordering) (o : IsTotalOrder R) (exact : (
     );
   }
 
+  -- lists that rise and have the same items, told in the same words, are one
+  same_told : (Told : E → Type 0) (xs ys : List E) → IsStrictlySortedBy R xs → IsStrictlySortedBy R ys → ((x : E) → Contains xs x ↔ Told x) → ((x : E) → Contains ys x ↔ Told x) → xs ≡ ys
+  same_told Told xs ys h k a b =
+      same_items xs ys h k (λ q. same_test (has_item R xs q) (has_item R ys q)
+      (λ e. has_contained ys q ((b q).1 ((a q).0 (contains_had xs q e))))
+      (λ e. has_contained xs q ((a q).1 ((b q).0 (contains_had ys q e)))))
+
   -- the union of two sets is one list
   pub union_unique : (xs ys zs : List E) → IsStrictlySortedBy R xs → IsUnion R xs ys zs → zs ≡ union_of R xs ys
-  union_unique xs ys zs h u =
-      let v = union_is_union xs ys h in
-      same_items zs (union_of R xs ys) u.rising v.rising (λ q. same_test (has_item R zs q) (has_item R (union_of R xs ys) q)
-      (λ e. has_contained (union_of R xs ys) q ((v.items q).1 ((u.items q).0 (contains_had zs q e))))
-      (λ e. has_contained zs q ((u.items q).1 ((v.items q).0 (contains_had (union_of R xs ys) q e)))))
+  union_unique xs ys zs h u = let v = union_is_union xs ys h in same_told (λ q. Contains xs q ⊎ Contains ys q) zs (union_of R xs ys) u.rising v.rising u.items v.items
 
   -- so is the intersection
   pub intersection_unique : (xs ys zs : List E) → IsStrictlySortedBy R xs → IsIntersection R xs ys zs → zs ≡ intersection_of R xs ys
-  intersection_unique xs ys zs h u =
-      let v = intersection_is_intersection xs ys h in
-      same_items zs (intersection_of R xs ys) u.rising v.rising (λ q. same_test (has_item R zs q) (has_item R (intersection_of R xs ys) q)
-      (λ e. has_contained (intersection_of R xs ys) q ((v.items q).1 ((u.items q).0 (contains_had zs q e))))
-      (λ e. has_contained zs q ((u.items q).1 ((v.items q).0 (contains_had (intersection_of R xs ys) q e)))))
+  intersection_unique xs ys zs h u = let v = intersection_is_intersection xs ys h in same_told (λ q. Contains xs q × Contains ys q) zs (intersection_of R xs ys) u.rising v.rising u.items v.items

@@ -1,7 +1,7 @@
 //! Operations on sets that are given as slices whose items rise strictly.
-ghost use Rattle.std.specs.Prelude.{◌≡◌, ◌++◌, ◌∷◌, [], ◌↔◌, Contains, IsTrue, IfOk, OnOk};
+ghost use Rattle.std.specs.Prelude.{◌≡◌, ◌++◌, ◌∷◌, [], ◌↔◌, Contains, IsTrue, IfOk, OnOk, if◌then◌else◌};
 ghost use Rattle.std.specs.List.Sorted.{IsStrictlySortedBy};
-ghost use Rattle.lattice_sets.specs.Sets.{Includes, IsUnion, IsIntersection, IsDifference, IsPlace};
+ghost use Rattle.lattice_sets.specs.Sets.{Includes, difference_of, intersection_of, IsUnion, IsIntersection, IsDifference, IsPlace};
 
 use flow_term::{Element, List};
 use std::alloc::{AllocError, Global};
@@ -59,27 +59,58 @@ pub fn union<E: Element>(alloc: Global, a: &[E], b: &[E]) -> Result<List<E>, All
     Ok(list)
 }
 
-/// The items that both sets have, in one pass over both.
-pub fn inter<E: Element>(alloc: Global, a: &[E], b: &[E]) -> Result<List<E>, AllocError>
+/// Adds a copy of an item at the end of a list, if it is wanted.
+fn push_if<E: Element>(
+    alloc: Global,
+    list: &mut List<E>,
+    item: &E,
+    wanted: bool,
+) -> Result<(), AllocError>
+    ensures { OnOk result (list.new ≡ list.old ++ (if wanted then item.now ∷ [] else [])) }
+{
+    if wanted {
+        push_copy(alloc, list, item)?;
+    }
+    Ok(())
+}
+
+/// The items of the first set that the second has, or, where `held` is false, those that it lacks, in one pass over both.
+fn keep<E: Element>(alloc: Global, a: &[E], b: &[E], held: bool) -> Result<List<E>, AllocError>
     requires left { IsStrictlySortedBy E.cmp a.now }
     requires right { IsStrictlySortedBy E.cmp b.now }
-    ensures { IfOk result (IsIntersection E.cmp a.now b.now) }
+    ensures { IfOk result (λ list. list ≡ (if held then intersection_of E.cmp a.now b.now else difference_of E.cmp a.now b.now)) }
 {
     let mut list = List::new(alloc);
     let mut left = a;
     let mut right = b;
     while let (Some((x, xs)), Some((y, ys))) = (left.split_first(), right.split_first()) {
         match x.cmp(y) {
-            Ordering::Less => left = xs,
+            Ordering::Less => {
+                push_if(alloc, &mut list, x, !held)?;
+                left = xs;
+            }
             Ordering::Equal => {
-                push_copy(alloc, &mut list, x)?;
+                push_if(alloc, &mut list, x, held)?;
                 left = xs;
                 right = ys;
             }
             Ordering::Greater => right = ys,
         }
     }
+    if held {
+        return Ok(list);
+    }
+    push_copies(alloc, &mut list, left)?;
     Ok(list)
+}
+
+/// The items that both sets have, in one pass over both.
+pub fn inter<E: Element>(alloc: Global, a: &[E], b: &[E]) -> Result<List<E>, AllocError>
+    requires left { IsStrictlySortedBy E.cmp a.now }
+    requires right { IsStrictlySortedBy E.cmp b.now }
+    ensures { IfOk result (IsIntersection E.cmp a.now b.now) }
+{
+    keep(alloc, a, b, true)
 }
 
 /// The items of the first set that the second lacks, in one pass over both.
@@ -88,24 +119,7 @@ pub fn minus<E: Element>(alloc: Global, a: &[E], b: &[E]) -> Result<List<E>, All
     requires right { IsStrictlySortedBy E.cmp b.now }
     ensures { IfOk result (IsDifference E.cmp a.now b.now) }
 {
-    let mut list = List::new(alloc);
-    let mut left = a;
-    let mut right = b;
-    while let (Some((x, xs)), Some((y, ys))) = (left.split_first(), right.split_first()) {
-        match x.cmp(y) {
-            Ordering::Less => {
-                push_copy(alloc, &mut list, x)?;
-                left = xs;
-            }
-            Ordering::Equal => {
-                left = xs;
-                right = ys;
-            }
-            Ordering::Greater => right = ys,
-        }
-    }
-    push_copies(alloc, &mut list, left)?;
-    Ok(list)
+    keep(alloc, a, b, false)
 }
 
 /// Whether each item of `b` is in `a`. It stops at the first that isn't, and takes no memory.

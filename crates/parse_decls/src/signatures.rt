@@ -3,12 +3,12 @@ ghost use Rattle.spec_grammar.specs.Gives.{Gives};
 ghost use Rattle.spec_grammar.specs.Kinds.{code_of, kind_count};
 ghost use Rattle.spec_grammar.specs.Reading.{reads};
 ghost use Rattle.spec_grammar.specs.Symbols.{ASignature, AConstructor, ATreeSort};
-ghost use Rattle.parse_decls.specs.inner.Pieces.{reads_argument_sorts, reads_each, reads_in_round, reads_sorts};
+ghost use Rattle.parse_decls.specs.inner.Pieces.{reads_argument_sorts, reads_each, reads_in_round, reads_plain_tree_sort, reads_sorts};
 
 use crate::names::{read_constructor_name, read_name};
 use flow_syntax::{Constructor, Signature, TreeSort};
 use flow_term::{Boxed, List};
-use spec_grammar::{Cursor, Kind, LIMIT, Read};
+use spec_grammar::{Cursor, Kind, LIMIT, Read, named};
 use std::alloc::Global;
 
 /// With what the sort of a tree begins.
@@ -20,6 +20,9 @@ const TREE_SORT: [Kind; 6] = [
     Kind::List,
     Kind::OpenRound,
 ];
+
+/// The sorts of one token.
+const PLAIN_TREE_SORTS: [Kind; 4] = [Kind::Identifier, Kind::Str, Kind::Int, Kind::Any];
 
 /// The signature: the sort of a whole tree, and the constructors.
 pub fn read_signature(alloc: Global, cursor: Cursor<'_>) -> Read<'_, Signature>
@@ -86,21 +89,8 @@ pub fn read_tree_sort(alloc: Global, cursor: Cursor<'_>, nesting: u64) -> Read<'
     if nesting > LIMIT {
         return Err(cursor.too_deep(&TREE_SORT));
     }
-    if cursor.begins(Kind::Identifier) {
-        let (name, rest) = read_name(alloc, cursor, nesting)?;
-        return Ok((TreeSort::Sort(name), rest));
-    }
-    if cursor.begins(Kind::Str) {
-        let (_, rest) = cursor.token(Kind::Str, nesting)?;
-        return Ok((TreeSort::Str, rest));
-    }
-    if cursor.begins(Kind::Int) {
-        let (_, rest) = cursor.token(Kind::Int, nesting)?;
-        return Ok((TreeSort::Int, rest));
-    }
-    if cursor.begins(Kind::Any) {
-        let (_, rest) = cursor.token(Kind::Any, nesting)?;
-        return Ok((TreeSort::Any, rest));
+    if cursor.begins_any(&PLAIN_TREE_SORTS) {
+        return read_plain_tree_sort(alloc, cursor, nesting);
     }
     if cursor.begins(Kind::List) {
         let (_, rest) = cursor.token(Kind::List, nesting)?;
@@ -111,6 +101,20 @@ pub fn read_tree_sort(alloc: Global, cursor: Cursor<'_>, nesting: u64) -> Read<'
     let (parts, rest) = read_tree_sorts(alloc, rest, Kind::Comma, nesting + 1)?;
     let (_, rest) = rest.token(Kind::CloseRound, nesting + 1)?;
     Ok((TreeSort::Tuple(parts), rest))
+}
+
+/// The sort of a tree, of one token.
+fn read_plain_tree_sort(alloc: Global, cursor: Cursor<'_>, nesting: u64) -> Read<'_, TreeSort>
+    ensures { Gives (λ x. (x.0, x.1.tokens.now)) result (reads_plain_tree_sort nesting cursor.entry.tokens.now) }
+{
+    let (token, kind, rest) = cursor.any_token(&PLAIN_TREE_SORTS, nesting)?;
+    let sort = match kind {
+        Kind::Identifier => TreeSort::Sort(named(alloc, token)?),
+        Kind::Str => TreeSort::Str,
+        Kind::Int => TreeSort::Int,
+        _ => TreeSort::Any,
+    };
+    Ok((sort, rest))
 }
 
 /// A sort in parentheses.

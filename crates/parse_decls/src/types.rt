@@ -2,12 +2,12 @@ ghost use Rattle.std.specs.Prelude.{◌≤◌};
 ghost use Rattle.spec_grammar.specs.Gives.{Gives};
 ghost use Rattle.spec_grammar.specs.Reading.{reads};
 ghost use Rattle.spec_grammar.specs.Symbols.{AProperty, AType, AnElemSort};
-ghost use Rattle.parse_decls.specs.inner.Pieces.{reads_in_round, reads_pair};
+ghost use Rattle.parse_decls.specs.inner.Pieces.{reads_in_round, reads_pair, reads_plain_elem_sort, reads_set_type};
 
 use crate::names::read_name;
 use flow_syntax::{ElemSort, LatticeType, PropDecl};
 use flow_term::Boxed;
-use spec_grammar::{Cursor, Kind, LIMIT, Read};
+use spec_grammar::{Cursor, Kind, LIMIT, Read, named};
 use std::alloc::Global;
 
 /// With what the sort of an element begins.
@@ -20,6 +20,15 @@ const ELEM_SORT: [Kind; 6] = [
     Kind::OpenRound,
 ];
 
+/// The sorts of one token.
+const PLAIN_ELEM_SORTS: [Kind; 5] = [
+    Kind::Name,
+    Kind::Pos,
+    Kind::Str,
+    Kind::Int,
+    Kind::Identifier,
+];
+
 /// With what a type begins.
 const TYPE: [Kind; 6] = [
     Kind::MaySet,
@@ -29,6 +38,9 @@ const TYPE: [Kind; 6] = [
     Kind::Pair,
     Kind::Identifier,
 ];
+
+/// The words of the types that have the sort of their elements behind them.
+const SET_WORDS: [Kind; 3] = [Kind::MaySet, Kind::MustSet, Kind::Flat];
 
 /// A property: its name, and the lattice of its values.
 pub fn read_property(alloc: Global, cursor: Cursor<'_>) -> Read<'_, PropDecl>
@@ -49,20 +61,8 @@ pub fn read_type(alloc: Global, cursor: Cursor<'_>, nesting: u64) -> Read<'_, La
     if nesting > LIMIT {
         return Err(cursor.too_deep(&TYPE));
     }
-    if cursor.begins(Kind::MaySet) {
-        let (_, rest) = cursor.token(Kind::MaySet, nesting)?;
-        let (members, rest) = read_elem_in_round(alloc, rest, nesting)?;
-        return Ok((LatticeType::May(members), rest));
-    }
-    if cursor.begins(Kind::MustSet) {
-        let (_, rest) = cursor.token(Kind::MustSet, nesting)?;
-        let (members, rest) = read_elem_in_round(alloc, rest, nesting)?;
-        return Ok((LatticeType::Must(members), rest));
-    }
-    if cursor.begins(Kind::Flat) {
-        let (_, rest) = cursor.token(Kind::Flat, nesting)?;
-        let (value, rest) = read_elem_in_round(alloc, rest, nesting)?;
-        return Ok((LatticeType::Flat(value), rest));
+    if cursor.begins_any(&SET_WORDS) {
+        return read_set_type(alloc, cursor, nesting);
     }
     if cursor.begins(Kind::Map) {
         let (_, rest) = cursor.token(Kind::Map, nesting)?;
@@ -77,6 +77,21 @@ pub fn read_type(alloc: Global, cursor: Cursor<'_>, nesting: u64) -> Read<'_, La
     }
     let (name, rest) = read_name(alloc, cursor, nesting)?;
     Ok((LatticeType::Table(name), rest))
+}
+
+/// A set or a flat value: its word, and the sort of its elements in parentheses.
+fn read_set_type(alloc: Global, cursor: Cursor<'_>, nesting: u64) -> Read<'_, LatticeType>
+    requires { nesting ≤ 256 }
+    ensures { Gives (λ x. (x.0, x.1.tokens.now)) result (reads_set_type nesting cursor.entry.tokens.now) }
+{
+    let (_, word, rest) = cursor.any_token(&SET_WORDS, nesting)?;
+    let (elements, rest) = read_elem_in_round(alloc, rest, nesting)?;
+    let made = match word {
+        Kind::MaySet => LatticeType::May(elements),
+        Kind::MustSet => LatticeType::Must(elements),
+        _ => LatticeType::Flat(elements),
+    };
+    Ok((made, rest))
 }
 
 /// The sort of a map's keys and the type of its values, in parentheses.
@@ -124,29 +139,27 @@ pub fn read_elem_sort(alloc: Global, cursor: Cursor<'_>, nesting: u64) -> Read<'
     if nesting > LIMIT {
         return Err(cursor.too_deep(&ELEM_SORT));
     }
-    if cursor.begins(Kind::Name) {
-        let (_, rest) = cursor.token(Kind::Name, nesting)?;
-        return Ok((ElemSort::Name, rest));
-    }
-    if cursor.begins(Kind::Pos) {
-        let (_, rest) = cursor.token(Kind::Pos, nesting)?;
-        return Ok((ElemSort::Pos, rest));
-    }
-    if cursor.begins(Kind::Str) {
-        let (_, rest) = cursor.token(Kind::Str, nesting)?;
-        return Ok((ElemSort::Str, rest));
-    }
-    if cursor.begins(Kind::Int) {
-        let (_, rest) = cursor.token(Kind::Int, nesting)?;
-        return Ok((ElemSort::Int, rest));
-    }
-    if cursor.begins(Kind::Identifier) {
-        let (name, rest) = read_name(alloc, cursor, nesting)?;
-        return Ok((ElemSort::Enum(name), rest));
+    if cursor.begins_any(&PLAIN_ELEM_SORTS) {
+        return read_plain_elem_sort(alloc, cursor, nesting);
     }
     let ((first, second), rest) = read_elem_pair(alloc, cursor, nesting)?;
     let first = Boxed::new(alloc, first)?;
     Ok((ElemSort::Pair(first, Boxed::new(alloc, second)?), rest))
+}
+
+/// The sort of an element, of one token.
+fn read_plain_elem_sort(alloc: Global, cursor: Cursor<'_>, nesting: u64) -> Read<'_, ElemSort>
+    ensures { Gives (λ x. (x.0, x.1.tokens.now)) result (reads_plain_elem_sort nesting cursor.entry.tokens.now) }
+{
+    let (token, kind, rest) = cursor.any_token(&PLAIN_ELEM_SORTS, nesting)?;
+    let sort = match kind {
+        Kind::Name => ElemSort::Name,
+        Kind::Pos => ElemSort::Pos,
+        Kind::Str => ElemSort::Str,
+        Kind::Int => ElemSort::Int,
+        _ => ElemSort::Enum(named(alloc, token)?),
+    };
+    Ok((sort, rest))
 }
 
 /// Two sorts in parentheses.

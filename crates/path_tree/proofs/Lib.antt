@@ -1,3 +1,2 @@
 pub mod AlongPaths
 pub mod Changes
-pub mod PartSizes

@@ -1,6 +1,6 @@
 -- Trees with a value at each position.
-use Rattle.std.specs.Prelude.{ℕ, ◌+◌, sum, List, [], ◌∷◌, Option, Some, insert, length, remove, slice_get, slice_set, option_map, option_and_then, unwrap_or}
-use Rattle.path_tree.specs.declared.tree.PathTree.{PathTree, fold-PathTree, out-PathTree, roll-PathTree}
+use Rattle.std.specs.Prelude.{ℕ, List, [], ◌∷◌, Option, Some, insert, length, remove, slice_get, slice_set, option_map, option_and_then, unwrap_or}
+use Rattle.path_tree.specs.declared.tree.PathTree.{PathTree, out-PathTree, roll-PathTree}
 
 module _ {T : Type 0} where
   -- the value at the root, and the children
@@ -35,10 +35,6 @@ module _ {T : Type 0} where
   -- the child with this number of the part at the path
   abbrev pub ItemAt : PathTree T → List ℕ → ℕ → Option (PathTree T)
   ItemAt s path at = option_and_then (λ part. slice_get (children_of part) at) (PartAt s path)
-
-  -- the number of positions of a tree
-  abbrev pub part_count : PathTree T → ℕ
-  part_count = fold-PathTree T ℕ (λ s. 1 + sum s.children)
 
   -- the tree in which the part at the path is changed, and all else is as before
   abbrev pub ChangePart : PathTree T → List ℕ → (PathTree T → PathTree T) → PathTree T

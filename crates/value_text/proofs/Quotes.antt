@@ -1,12 +1,14 @@
 -- Reading what stands between quotes.
-use Rattle.std.proofs.Common.{◌≡◌, ℕ, zero, suc, ◌+◌, ◌-◌, ◌*◌, ◌<◌, ◌≤◌, Bool, true, false, ◌&&◌, ◌||◌, List, [], ◌∷◌, ◌++◌, length, Some, refl, sym, ap, subst, ◌∙◌, arith, append_assoc, length-append, inl, inr}
-use Rattle.std.specs.Prelude.{◌==◌, ◌/◌, ◌%◌, nat_lt, nat_le, if◌then◌else◌, IsUtf8}
+use Rattle.std.proofs.Common.{◌≡◌, ℕ, zero, suc, ◌+◌, ◌<◌, ◌≤◌, Bool, true, false, ◌||◌, List, [], ◌∷◌, ◌++◌, length, Some, Option, refl, sym, ap, subst, ◌∙◌, arith, append_assoc, length-append, inl, inr}
+use Rattle.std.specs.Prelude.{◌==◌, ◌/◌, ◌%◌, nat_lt, if◌then◌else◌, option_map, IsUtf8}
 use Rattle.std.specs.Char.{is_ascii_digit}
 use Rattle.std.specs.List.{flat_map}
 use Rattle.std.proofs.lemmas.Bool.Decides.{nat_tests}
-use Rattle.flow_syntax.specs.Lexing.{octal_value}
-use Rattle.value_text.specs.Texts.{byte_text}
-use Rattle.value_text.specs.inner.Reading.{Reading, ◌>>=◌, all_until, begins_with, behind, escape_of, part_of, quoted_of, spelled, text_of, until}
+use Rattle.quoted_text.specs.Escapes.{octal_byte}
+use Rattle.quoted_text.specs.Spellings.{byte_text}
+use Rattle.quoted_text.proofs.Escapes.{octal_between, octal_long, octal_parts, octal_read, same_byte}
+use Rattle.quoted_text.proofs.Spelled.{control_ascii}
+use Rattle.value_text.specs.inner.Reading.{Reading, ◌>>=◌, all_until, begins_with, behind, escape_from, escape_of, octal_at, part_of, quoted_of, spelled, text_of, until}
 use Rattle.value_text.proofs.Told.{both_are, bound}
 use Rattle.value_text.proofs.Tokens.{behind_is, behind_read, is_a_text, is_first, text_is}
 use Rattle.value_text.proofs.Turns.{end, no_turns, turn, turned}
@@ -21,43 +23,31 @@ chosen_text : (quote c : ℕ) (t : Bool) (x y : List ℕ) → (t ≡ true → St
 chosen_text quote c true x y f g = f refl
 chosen_text quote c false x y f g = g refl
 
-same : (c d : ℕ) → (c == d) ≡ true → c ≡ d
-same c d h = grind (arith, nat_tests)
-
 -- what a quote is: not a backslash, and no letter of an escape
 pub record IsQuote (quote : ℕ) : Type 0 where
   pub itself : (quote == quote) ≡ true
   pub no_backslash : (92 == quote) ≡ false
   pub escaped : (rest : List ℕ) → escape_of (quote ∷ rest) ≡ Some (quote, rest)
 
-octal_digits : (c : ℕ) → c < 128 → (48 + c / 64 ≤ 49) × (48 + c / 8 % 8 ≤ 55) × (48 + c % 8 ≤ 55) × ((48 + c / 64 - 48) * 64 + (48 + c / 8 % 8 - 48) * 8 + (48 + c % 8 - 48) ≡ c)
-octal_digits c h = (omega arith, omega arith, omega arith, omega arith)
-
-between : (c d : ℕ) → 48 ≤ c → c ≤ d → (nat_le 48 c && nat_le c d) ≡ true
-between c d h k = grind (arith, nat_tests)
-
-octal_read : (c : ℕ) → c < 128 → octal_value (48 + c / 64) (48 + c / 8 % 8) (48 + c % 8) ≡ Some c
-octal_read c h =
-    let p = octal_digits c h in
-    let high = between (48 + c / 64) 49 (omega arith) p.0 in
-    let middle = between (48 + c / 8 % 8) 55 (omega arith) p.1 in
-    let low = between (48 + c % 8) 55 (omega arith) p.2 in
-    rw (high, middle, low, p.3) refl
-
-no_letter : (h d : ℕ) → h ≤ 57 → 57 < d → (h == d) ≡ false
-no_letter h d k l = grind (arith, nat_tests)
+-- three octal digits stand for the byte of which they are the spelling
+octal_stands : (c : ℕ) → c < 128 → octal_byte (48 + c / 64) (48 + c / 8 % 8) (48 + c % 8) ≡ Some c
+octal_stands c h =
+    let p = octal_parts c h in
+    let high = octal_between (48 + c / 64) (omega arith) (omega (arith, p.0)) in
+    let middle = octal_between (48 + c / 8 % 8) (omega arith) p.1 in
+    let low = octal_between (48 + c % 8) (omega arith) p.2 in
+    octal_read (48 + c / 64) (48 + c / 8 % 8) (48 + c % 8) c high middle low (sym p.3) h
 
 is_digit : (h : ℕ) → 48 ≤ h → h ≤ 57 → is_ascii_digit h ≡ true
 is_digit h k l = grind (arith, nat_tests)
 
 escape_read : (c : ℕ) (rest : List ℕ) → c < 128 → escape_of ((48 + c / 64) ∷ (48 + c / 8 % 8) ∷ (48 + c % 8) ∷ rest) ≡ Some (c, rest)
 escape_read c rest h =
-    let p = octal_digits c h in
-    let small : 48 + c / 64 ≤ 57 = omega (arith, p.0) in
-    rw (no_letter (48 + c / 64) 110 small (omega arith), no_letter (48 + c / 64) 116 small (omega arith), no_letter (48 + c / 64) 114 small (omega arith), is_digit (48 + c / 64) (omega arith) small, octal_read c h) refl
-
-control : (c : ℕ) → (nat_lt c 32 || c == 127) ≡ true → c < 128
-control c h = grind (arith, nat_tests)
+    let p = octal_parts c h in
+    let long = octal_long (48 + c / 64) (octal_between (48 + c / 64) (omega arith) (omega (arith, p.0))) in
+    ap (λ (o : Option ℕ). escape_from o ((48 + c / 64) ∷ (48 + c / 8 % 8) ∷ (48 + c % 8) ∷ rest)) long
+    ∙ ap (λ (b : Bool). if b then octal_at ((48 + c / 64) ∷ (48 + c / 8 % 8) ∷ (48 + c % 8) ∷ rest) else Some (48 + c / 64, (48 + c / 8 % 8) ∷ (48 + c % 8) ∷ rest)) (is_digit (48 + c / 64) (omega arith) (omega (arith, p.0)))
+    ∙ ap (λ (o : Option ℕ). option_map (λ (b : ℕ). (b, rest)) o) (octal_stands c h)
 
 module _ (quote : ℕ) (q : IsQuote quote) where
   short : (c d : ℕ) → ((rest : List ℕ) → escape_of (d ∷ rest) ≡ Some (c, rest)) → StandsFor quote c (92 ∷ d ∷ [])
@@ -65,13 +55,13 @@ module _ (quote : ℕ) (q : IsQuote quote) where
 
   byte_stands : (c : ℕ) → StandsFor quote c (byte_text quote c)
   byte_stands c =
-      chosen_text quote c (c == quote) _ _ (λ e. subst (λ (d : ℕ). StandsFor quote d (92 ∷ quote ∷ [])) (sym (same c quote e)) (short quote quote q.escaped)) (λ other.
-      chosen_text quote c (c == 92) _ _ (λ e. subst (λ (d : ℕ). StandsFor quote d (92 ∷ 92 ∷ [])) (sym (same c 92 e)) (short 92 92 (λ rest. refl))) (λ plain.
-      chosen_text quote c (c == 10) _ _ (λ e. subst (λ (d : ℕ). StandsFor quote d (92 ∷ 110 ∷ [])) (sym (same c 10 e)) (short 10 110 (λ rest. refl))) (λ _.
-      chosen_text quote c (c == 9) _ _ (λ e. subst (λ (d : ℕ). StandsFor quote d (92 ∷ 116 ∷ [])) (sym (same c 9 e)) (short 9 116 (λ rest. refl))) (λ _.
-      chosen_text quote c (c == 13) _ _ (λ e. subst (λ (d : ℕ). StandsFor quote d (92 ∷ 114 ∷ [])) (sym (same c 13 e)) (short 13 114 (λ rest. refl))) (λ _.
+      chosen_text quote c (c == quote) _ _ (λ e. subst (λ (d : ℕ). StandsFor quote d (92 ∷ quote ∷ [])) (sym (same_byte c quote e)) (short quote quote q.escaped)) (λ other.
+      chosen_text quote c (c == 92) _ _ (λ e. subst (λ (d : ℕ). StandsFor quote d (92 ∷ 92 ∷ [])) (sym (same_byte c 92 e)) (short 92 92 (λ rest. refl))) (λ plain.
+      chosen_text quote c (c == 10) _ _ (λ e. subst (λ (d : ℕ). StandsFor quote d (92 ∷ 110 ∷ [])) (sym (same_byte c 10 e)) (short 10 110 (λ rest. refl))) (λ _.
+      chosen_text quote c (c == 9) _ _ (λ e. subst (λ (d : ℕ). StandsFor quote d (92 ∷ 116 ∷ [])) (sym (same_byte c 9 e)) (short 9 116 (λ rest. refl))) (λ _.
+      chosen_text quote c (c == 13) _ _ (λ e. subst (λ (d : ℕ). StandsFor quote d (92 ∷ 114 ∷ [])) (sym (same_byte c 13 e)) (short 13 114 (λ rest. refl))) (λ _.
       chosen_text quote c (nat_lt c 32 || c == 127) _ _
-      (λ e. record { some = omega arith; opens = λ rest. q.no_backslash; read = λ rest. escape_read c rest (control c e) })
+      (λ e. record { some = omega arith; opens = λ rest. q.no_backslash; read = λ rest. escape_read c rest (control_ascii c e) })
       (λ _. record { some = omega arith; opens = λ rest. other; read = λ rest. rw plain refl }))))))
 
   byte_read : (c : ℕ) (rest : List ℕ) → part_of quote (byte_text quote c ++ rest) ≡ Some (c, rest)

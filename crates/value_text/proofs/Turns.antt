@@ -1,5 +1,5 @@
 -- Reading things up to a closing byte, turn by turn.
-use Rattle.std.proofs.Common.{◌≡◌, ℕ, zero, suc, ◌<◌, Bool, true, false, List, [], ◌∷◌, ◌++◌, length, drop, Some, None, Option, refl, sym, ap, ◌∙◌, arith, inl, inr, append_assoc, append-nil}
+use Rattle.std.proofs.Common.{◌≡◌, ℕ, zero, suc, ◌<◌, true, false, List, [], ◌∷◌, ◌++◌, length, drop, Some, None, Option, refl, sym, ap, ◌∙◌, arith, inl, inr, append_assoc, append-nil}
 use Rattle.std.specs.Prelude.{◌⊎◌, nat_lt, if◌then◌else◌}
 use Rattle.std.proofs.lemmas.Bool.{cases_Bool}
 use Rattle.std.proofs.lemmas.Bool.Decides.{nat_tests}
@@ -18,15 +18,6 @@ is_less m n h = grind (arith, nat_tests)
 
 told_less : (m n : ℕ) → nat_lt m n ≡ true → m < n
 told_less m n h = grind (arith, nat_tests)
-
--- a byte that stands in front stands somewhere
-pub begins_some : (b : ℕ) (bs : List ℕ) (t : Bool) → t ≡ begins_with b bs → t ≡ true → 0 < length bs
-begins_some b [] t e h = cc
-begins_some b (c ∷ bs) t e h = omega arith
-
-pub continued_nothing : {X : Type 0} (o : Reading (List X)) → continued [] o ≡ o
-continued_nothing None = refl
-continued_nothing (Some x) = refl
 
 regrouped : {X : Type 0} (before : List X) (x : X) (o : Reading (List X)) → continued before (o >>= λ xs. Some (x ∷ xs.0, xs.1)) ≡ continued (before ++ x ∷ []) o
 regrouped before x None = refl

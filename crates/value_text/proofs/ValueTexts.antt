@@ -101,9 +101,6 @@ module _ (n : ℕ) (E : Elem → Type 0) (elem : List ℕ → Reading Elem) (ele
   unfolding flat_with
   flat_read e rest h = let inner = elem_reads e (codes ")" ++ rest) h refl in rw (append_assoc (elem_text e) (codes ")") rest, inner) refl
 
-  rolled : (v : Value) (x : Value-F Value Entry) (rest : List ℕ) (o : Reading Value) → o ≡ Some (v, rest) → roll-Value x ≡ v → o ≡ Some (roll-Value x, rest)
-  rolled v x rest o e is = e ∙ ap (λ w. Some (w, rest)) (sym is)
-
   set_read : (elems : List Elem) (rest : List ℕ) → (n == 0) ≡ false → IsStrictlySortedBy elem_cmp elems × All E elems → set_with n elem (listed (map elem_text elems) ++ 125 ∷ rest) ≡ Some (value.Set elems, rest)
   unfolding set_with
   set_read elems rest some h = rw (some, list_read E elem_text elem elem_reads 125 closes elems rest h.1, rising_is_told elems h.0) refl

@@ -1,5 +1,5 @@
 -- The text of a value, and which values have one.
-use Rattle.std.specs.Prelude.{ℕ, zero, suc, ◌+◌, ◌/◌, ◌%◌, ◌==◌, ◌||◌, nat_lt, if◌then◌else◌, ⊤, List, [], ◌∷◌, ◌++◌, codes, map, All, IsUtf8}
+use Rattle.std.specs.Prelude.{ℕ, zero, suc, ◌==◌, if◌then◌else◌, ⊤, List, [], ◌∷◌, ◌++◌, codes, map, All, IsUtf8}
 use Rattle.std.specs.Fmt.{signed_decimal}
 use Rattle.std.specs.List.{flat_map}
 use Rattle.std.specs.List.Sorted.{IsStrictlySortedBy}
@@ -9,28 +9,10 @@ use Rattle.flow_term.specs.declared.value.Value.{Value, Value-F, out-Value, fold
 use Rattle.flow_term.specs.Elements.{elem_cmp}
 use Rattle.flow_term.specs.Paths.{AreSteps, path_text}
 use Rattle.flow_syntax.specs.Accepted.{IsIdentifier}
+use Rattle.quoted_text.specs.Spellings.{quoted}
 use Rattle.value_text.specs.Integers.{IsI64}
 
 -- -- the texts
-
--- a backslash and three octal digits
-abbrev pub octal_escape : ℕ → List ℕ
-octal_escape c = 92 ∷ (48 + c / 64) ∷ (48 + c / 8 % 8) ∷ (48 + c % 8) ∷ []
-
--- one byte between two quotes of this kind: the quote, `\`, line feed, tab and carriage return by their short escapes, other bytes below 32 and
--- 127 by octal digits, and any other as it is
-abbrev pub byte_text : ℕ → ℕ → List ℕ
-byte_text quote c =
-    if c == quote then 92 ∷ quote ∷ [] else (
-    if c == 92 then 92 ∷ 92 ∷ [] else (
-    if c == 10 then 92 ∷ 110 ∷ [] else (
-    if c == 9 then 92 ∷ 116 ∷ [] else (
-    if c == 13 then 92 ∷ 114 ∷ [] else (
-    if nat_lt c 32 || c == 127 then octal_escape c else c ∷ [])))))
-
--- a text between two quotes
-abbrev pub quoted : ℕ → List ℕ → List ℕ
-quoted quote text = quote ∷ (flat_map (byte_text quote) text ++ quote ∷ [])
 
 -- two texts between parentheses
 abbrev pub pair_text : List ℕ → List ℕ → List ℕ

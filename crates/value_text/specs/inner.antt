@@ -1,3 +1,2 @@
 -- What the contracts of private functions cite.
 pub mod Reading
-pub mod Spellings

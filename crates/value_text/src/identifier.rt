@@ -7,15 +7,9 @@ ghost use Rattle.value_text.specs.inner.Reading.{Gives, item_of};
 
 use crate::bytes::text_of;
 use crate::refusal::ValueRefusal;
-use flow_syntax::is_reserved;
+use flow_syntax::{is_name_byte, is_reserved};
 use flow_term::Text;
 use std::alloc::Global;
-
-fn is_name_byte(byte: u8) -> bool
-    ensures { result ≡ is_name_byte byte }
-{
-    byte.is_ascii_alphanumeric() || byte == b'_'
-}
 
 fn are_name_bytes(bytes: &[u8]) -> bool
     ensures { result ≡ list_all is_name_byte bytes.now }

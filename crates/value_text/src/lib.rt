@@ -10,7 +10,6 @@ mod limits;
 mod quoted;
 mod reader;
 mod refusal;
-mod spelling;
 mod values;
 mod writer;
 

@@ -1,37 +1,36 @@
 //! Texts between quotes.
 ghost use Rattle.std.specs.Prelude.{◌≡◌, ◌+◌, ◌<◌, ◌≤◌, IfOk, length};
-ghost use Rattle.value_text.specs.inner.Reading.{Gives, all_until, behind, escape_of, octal_at, part_of, quoted_of, spelled};
-ghost use Rattle.flow_syntax.specs.Lexing.{octal_value};
-ghost use Rattle.value_text.specs.Texts.{byte_text};
+ghost use Rattle.quoted_text.specs.Spellings.{byte_text};
+ghost use Rattle.value_text.specs.inner.Reading.{Gives, all_until, behind, escape_of, long_of, octal_at, part_of, quoted_of, spelled};
 
 use crate::bytes::{Reading, begins_with, behind, behind_first, made_text};
 use crate::refusal::ValueRefusal;
-use crate::spelling::Spelling;
 use flow_term::{List, Text};
+use quoted_text::{Spelling, octal_byte, short_escape};
 use std::alloc::Global;
-
-/// The byte that three octal digits stand for, if it is one of ASCII.
-fn octal_value(high: u8, middle: u8, low: u8) -> Option<u8>
-    ensures { result ≡ octal_value high middle low }
-{
-    match (high, middle, low) {
-        (b'0'..=b'1', b'0'..=b'7', b'0'..=b'7') => {
-            Some((high - b'0') * 64 + (middle - b'0') * 8 + (low - b'0'))
-        }
-        _ => None,
-    }
-}
 
 fn read_octal(bytes: &[u8]) -> Reading<'_, u8>
     ensures read { Gives (λ x. (x.0, x.1.now)) result (octal_at bytes.now) }
     ensures shorter { IfOk result (λ x. length x.1.now < length bytes.now) }
 {
     match bytes {
-        [high, middle, low, rest @ ..] => match octal_value(*high, *middle, *low) {
+        [high, middle, low, rest @ ..] => match octal_byte(*high, *middle, *low) {
             Some(byte) => Ok((byte, rest)),
             None => Err(ValueRefusal::Form),
         },
         _ => Err(ValueRefusal::Form),
+    }
+}
+
+/// What stands behind a backslash and isn't a short escape: three octal digits, or a byte for itself.
+fn read_long(bytes: &[u8]) -> Reading<'_, u8>
+    ensures read { Gives (λ x. (x.0, x.1.now)) result (long_of bytes.now) }
+    ensures shorter { IfOk result (λ x. length x.1.now < length bytes.now) }
+{
+    match bytes {
+        [] => Err(ValueRefusal::Form),
+        [b'0'..=b'9', ..] => read_octal(bytes),
+        [byte, rest @ ..] => Ok((*byte, rest)),
     }
 }
 
@@ -42,11 +41,10 @@ fn read_escape(bytes: &[u8]) -> Reading<'_, u8>
 {
     match bytes {
         [] => Err(ValueRefusal::Form),
-        [b'n', rest @ ..] => Ok((b'\n', rest)),
-        [b't', rest @ ..] => Ok((b'\t', rest)),
-        [b'r', rest @ ..] => Ok((b'\r', rest)),
-        [b'0'..=b'9', ..] => read_octal(bytes),
-        [byte, rest @ ..] => Ok((*byte, rest)),
+        [byte, rest @ ..] => match short_escape(*byte) {
+            Some(value) => Ok((value, rest)),
+            None => read_long(bytes),
+        },
     }
 }
 

@@ -3,11 +3,11 @@ ghost use Rattle.std.specs.Prelude.{◌≡◌, ◌++◌, IfOk, OnOk, map, codes}
 ghost use Rattle.std.specs.Fmt.{signed_decimal};
 ghost use Rattle.flow_term.specs.Paths.{path_text};
 ghost use Rattle.value_text.specs.Laws.{IsTextOf};
-ghost use Rattle.value_text.specs.Texts.{HasText, byte_text, elem_text, entry_text, listed, quoted, separator, value_text};
+ghost use Rattle.value_text.specs.Texts.{HasText, elem_text, entry_text, listed, separator, value_text};
 
-use crate::spelling::Spelling;
 use flow_term::{Elem, Entry, List, Path, Text, Value, write_path};
 use itoa::Buffer;
+use quoted_text::push_quoted;
 use std::alloc::{AllocError, Global};
 
 /// The text of a value that has one. Fails only for want of memory.
@@ -96,8 +96,8 @@ fn push_elem(bytes: &mut Vec<u8>, elem: &Elem) -> Result<(), AllocError>
     ensures { OnOk result (bytes.new.items ≡ bytes.old.items ++ elem_text elem.now) }
 {
     match elem {
-        Elem::Name(text) => push_quoted(bytes, b'"', text),
-        Elem::Str(text) => push_quoted(bytes, b'\'', text),
+        Elem::Name(text) => push_quoted(bytes, b'"', text.as_str().as_bytes()),
+        Elem::Str(text) => push_quoted(bytes, b'\'', text.as_str().as_bytes()),
         Elem::Pos(path) => push_path(bytes, path),
         Elem::Item(text) => push_text(bytes, text),
         Elem::Int(number) => push_number(bytes, *number),
@@ -129,29 +129,4 @@ fn push_number(bytes: &mut Vec<u8>, number: i64) -> Result<(), AllocError>
 {
     let mut buffer = Buffer::new();
     bytes.extend_from_slice(buffer.format(number).as_bytes())
-}
-
-/// Adds a text between two quotes of this kind.
-fn push_quoted(bytes: &mut Vec<u8>, quote: u8, text: &Text) -> Result<(), AllocError>
-    ensures { OnOk result (bytes.new.items ≡ bytes.old.items ++ quoted quote text.now) }
-{
-    push_bytes(bytes, quote, text.as_str().as_bytes())
-}
-
-fn push_bytes(bytes: &mut Vec<u8>, quote: u8, text: &[u8]) -> Result<(), AllocError>
-    ensures { OnOk result (bytes.new.items ≡ bytes.old.items ++ quoted quote text.now) }
-{
-    bytes.push(quote)?;
-    for byte in text {
-        push_byte(bytes, quote, *byte)?;
-    }
-    bytes.push(quote)?;
-    Ok(())
-}
-
-/// Adds one byte of a text between quotes of this kind.
-fn push_byte(bytes: &mut Vec<u8>, quote: u8, byte: u8) -> Result<(), AllocError>
-    ensures { OnOk result (bytes.new.items ≡ bytes.old.items ++ byte_text quote byte) }
-{
-    bytes.extend_from_slice(Spelling::of(quote, byte).as_slice())
 }

@@ -1,7 +1,6 @@
 -- What the reader's functions return, against the machine.
-use Rattle.std.specs.Prelude.{◌≡◌, ℕ, ◌<◌, List, reverse, Result, Ok, Err, IsUtf8}
+use Rattle.std.specs.Prelude.{◌≡◌, ℕ, ◌<◌, reverse, Result, Ok, Err, IsUtf8}
 use Rattle.flow_term.specs.declared.term.Term.{Term}
-use Rattle.aterm_text.specs.declared.levels.Levels.{Levels}
 use Rattle.aterm_text.specs.declared.reader.state.Last.{Last}
 use Rattle.aterm_text.specs.declared.reader.state.Last.TheVariants as last
 use Rattle.aterm_text.specs.declared.reader.state.Reader.{Reader}

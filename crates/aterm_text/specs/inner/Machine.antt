@@ -1,9 +1,10 @@
 -- How the bytes of a term text are read one by one: what each of them makes of what has been read so far. Where `b` is false, the
 -- limits of depth and size are left out.
-use Rattle.std.specs.Prelude.{ℕ, ℤ, ◌+◌, ◌-◌, ◌*◌, ◌^◌, Bool, true, false, ◌==◌, ◌&&◌, nat_le, nat_lt, List, [], ◌∷◌, ◌++◌, length, Option, Some, None, Result, Ok, Err, if◌then◌else◌}
+use Rattle.std.specs.Prelude.{ℕ, ℤ, ◌+◌, ◌-◌, ◌*◌, ◌^◌, Bool, true, false, ◌==◌, ◌&&◌, nat_le, List, [], ◌∷◌, ◌++◌, length, Option, Some, None, Result, Ok, Err, if◌then◌else◌}
 use Rattle.flow_term.specs.declared.term.Term.{Term}
 use Rattle.flow_term.specs.declared.term.Kind.{Kind}
 use Rattle.flow_term.specs.declared.term.Kind.TheVariants as kind
+use Rattle.quoted_text.specs.Escapes.{is_low_octal, is_octal, short_escape}
 use Rattle.aterm_text.specs.declared.class.ByteClass.{ByteClass}
 use Rattle.aterm_text.specs.declared.class.ByteClass.TheVariants.{Letter, Digit, Minus, Sign, Blank, Quote, Comma, Parenthesis, Bracket, Brace, Closing}
 use Rattle.aterm_text.specs.declared.number.Number.{Number}
@@ -15,7 +16,7 @@ use Rattle.aterm_text.specs.declared.reader.state.Last.{Last}
 use Rattle.aterm_text.specs.declared.reader.state.Last.TheVariants as last
 use Rattle.aterm_text.specs.declared.refusal.TermFaultKind.{TermFaultKind}
 use Rattle.aterm_text.specs.declared.refusal.TermFaultKind.TheVariants.{Unexpected, Real, Blob, BadEscape, IntRange, TooDeep, TooMany}
-use Rattle.aterm_text.specs.Bytes.{class_of, begins_term, misplaced, is_real_mark, is_low_octal, is_octal, short_escape}
+use Rattle.aterm_text.specs.Bytes.{class_of, begins_term, misplaced, is_real_mark}
 use Rattle.aterm_text.specs.Grammar.{term}
 use Rattle.aterm_text.specs.Numbers.{with_digit, integer_of}
 use Rattle.aterm_text.specs.inner.Open.{closing_byte_of, with_item}

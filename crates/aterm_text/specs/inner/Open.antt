@@ -1,5 +1,5 @@
 -- Open brackets: what closes them, and what they become.
-use Rattle.std.specs.Prelude.{ℕ, List, ◌∷◌, ◌++◌, []}
+use Rattle.std.specs.Prelude.{ℕ, ◌∷◌, ◌++◌, []}
 use Rattle.flow_term.specs.declared.term.Term.{Term}
 use Rattle.aterm_text.specs.declared.open.Open.{Open}
 use Rattle.aterm_text.specs.declared.open.Opener.{Opener}

@@ -6,7 +6,7 @@ ghost use Rattle.aterm_text.specs.inner.Answers.{Answers};
 
 use super::state::{Last, Reader};
 use super::terms::after_body;
-use crate::class::ByteClass;
+use crate::class::{ByteClass, NextByte};
 use crate::levels::Levels;
 use crate::number::Number;
 use crate::open::Opener;
@@ -20,22 +20,20 @@ pub fn in_symbol(
     alloc: Global,
     levels: Levels,
     mut name: Text,
-    at: u64,
-    byte: u8,
-    class: ByteClass,
+    next: NextByte,
 ) -> Result<Reader, TermRefusal>
-    requires { class ≡ class_of byte }
-    ensures { Answers result (in_symbol class (reverse levels.open) levels.begun at name byte) }
+    requires { next.class ≡ class_of next.byte }
+    ensures { Answers result (in_symbol next.class (reverse levels.open) levels.begun next.at name next.byte) }
 {
-    match class {
+    match next.class {
         ByteClass::Letter | ByteClass::Digit | ByteClass::Minus | ByteClass::Sign => {
-            name.push_ascii(byte)?;
+            name.push_ascii(next.byte)?;
             Ok(Reader {
                 levels,
                 last: Last::Symbol(name),
             })
         }
-        _ => after_name(alloc, levels, name, at, byte, class),
+        _ => after_name(alloc, levels, name, next),
     }
 }
 
@@ -44,14 +42,12 @@ pub fn after_name(
     alloc: Global,
     levels: Levels,
     name: Text,
-    at: u64,
-    byte: u8,
-    class: ByteClass,
+    next: NextByte,
 ) -> Result<Reader, TermRefusal>
-    requires { class ≡ class_of byte }
-    ensures { Answers result (after_name class (reverse levels.open) levels.begun at name byte) }
+    requires { next.class ≡ class_of next.byte }
+    ensures { Answers result (after_name next.class (reverse levels.open) levels.begun next.at name next.byte) }
 {
-    match class {
+    match next.class {
         ByteClass::Blank => Ok(Reader {
             levels,
             last: Last::Name(name),
@@ -59,33 +55,27 @@ pub fn after_name(
         ByteClass::Parenthesis => levels.descend(alloc, Opener::Call(name)),
         _ => {
             let kind = Kind::Apply(name, List::new(alloc));
-            after_body(alloc, levels, kind, at, byte, class)
+            after_body(alloc, levels, kind, next)
         }
     }
 }
 
 /// A byte behind the sign of a number.
 #[tactic(auto, using(crate::proofs::Classes::byte_ranges))]
-pub fn after_minus(
-    levels: Levels,
-    start: u64,
-    at: u64,
-    byte: u8,
-    class: ByteClass,
-) -> Result<Reader, TermRefusal>
-    requires { class ≡ class_of byte }
-    ensures { Answers result (after_minus class (reverse levels.open) levels.begun at start byte) }
+pub fn after_minus(levels: Levels, start: u64, next: NextByte) -> Result<Reader, TermRefusal>
+    requires { next.class ≡ class_of next.byte }
+    ensures { Answers result (after_minus next.class (reverse levels.open) levels.begun next.at start next.byte) }
 {
-    match class {
+    match next.class {
         ByteClass::Digit => Ok(Reader {
             levels,
             last: Last::Number(Number {
                 negative: true,
-                magnitude: u64::from(byte - b'0'),
+                magnitude: u64::from(next.byte - b'0'),
                 start,
             }),
         }),
-        _ => Err(TermRefusal::fault(at, TermFaultKind::Unexpected)),
+        _ => Err(TermRefusal::fault(next.at, TermFaultKind::Unexpected)),
     }
 }
 
@@ -95,19 +85,17 @@ pub fn in_number(
     alloc: Global,
     levels: Levels,
     number: Number,
-    at: u64,
-    byte: u8,
-    class: ByteClass,
+    next: NextByte,
 ) -> Result<Reader, TermRefusal>
-    requires { class ≡ class_of byte }
-    ensures { Answers result (in_number class (reverse levels.open) levels.begun at number byte) }
+    requires { next.class ≡ class_of next.byte }
+    ensures { Answers result (in_number next.class (reverse levels.open) levels.begun next.at number next.byte) }
 {
-    match class {
+    match next.class {
         ByteClass::Digit => Ok(Reader {
             levels,
-            last: Last::Number(number.with_digit(byte)),
+            last: Last::Number(number.with_digit(next.byte)),
         }),
-        _ => after_number(alloc, levels, number, at, byte, class),
+        _ => after_number(alloc, levels, number, next),
     }
 }
 
@@ -116,19 +104,17 @@ fn after_number(
     alloc: Global,
     levels: Levels,
     number: Number,
-    at: u64,
-    byte: u8,
-    class: ByteClass,
+    next: NextByte,
 ) -> Result<Reader, TermRefusal>
-    requires { class ≡ class_of byte }
-    ensures { Answers result (after_number class (reverse levels.open) levels.begun at number byte) }
+    requires { next.class ≡ class_of next.byte }
+    ensures { Answers result (after_number next.class (reverse levels.open) levels.begun next.at number next.byte) }
 {
-    match byte {
+    match next.byte {
         b'.' | b'e' | b'E' => Err(TermRefusal::fault(number.start, TermFaultKind::Real)),
         b':' => Err(TermRefusal::fault(number.start, TermFaultKind::Blob)),
         _ => match number.integer() {
             None => Err(TermRefusal::fault(number.start, TermFaultKind::IntRange)),
-            Some(integer) => after_body(alloc, levels, Kind::Int(integer), at, byte, class),
+            Some(integer) => after_body(alloc, levels, Kind::Int(integer), next),
         },
     }
 }

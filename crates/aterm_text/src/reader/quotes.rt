@@ -1,16 +1,17 @@
 //! What stands between quotes, and behind it.
 ghost use Rattle.std.specs.Prelude.{◌≡◌, ◌<◌, ◌++◌, ◌∷◌, [], reverse, IsUtf8};
-ghost use Rattle.aterm_text.specs.Bytes.{class_of, short_escape, is_octal};
+ghost use Rattle.aterm_text.specs.Bytes.{class_of};
 ghost use Rattle.aterm_text.specs.inner.Machine.{in_quotes, in_escape, in_one_octal, in_two_octals, after_quotes};
 ghost use Rattle.aterm_text.specs.inner.Answers.{Answers};
 
 use super::state::{Escape, Last, Reader};
 use super::terms::after_body;
-use crate::class::ByteClass;
+use crate::class::{ByteClass, NextByte};
 use crate::levels::Levels;
 use crate::open::Opener;
 use crate::refusal::{TermFaultKind, TermRefusal};
 use flow_term::{Kind, List, Text};
+use quoted_text::{is_octal, short_escape};
 use std::alloc::Global;
 
 /// A byte between quotes.
@@ -40,26 +41,6 @@ fn closed_text(chars: List<u8>) -> Text
     ensures { result ≡ chars }
 {
     Text::from_utf8(chars).unwrap()
-}
-
-/// What a byte behind a backslash stands for by itself.
-fn short_escape(byte: u8) -> Option<u8>
-    ensures { result ≡ short_escape byte }
-{
-    match byte {
-        b'"' => Some(b'"'),
-        b'\\' => Some(b'\\'),
-        b'n' => Some(b'\n'),
-        b't' => Some(b'\t'),
-        b'r' => Some(b'\r'),
-        _ => None,
-    }
-}
-
-fn is_octal(byte: u8) -> bool
-    ensures { result ≡ is_octal byte }
-{
-    b'0' <= byte && byte <= b'7'
 }
 
 /// A byte behind a backslash. An octal value is below 128 exactly where its first digit is `0` or `1`.
@@ -128,19 +109,17 @@ pub fn after_quotes(
     alloc: Global,
     levels: Levels,
     chars: Text,
-    at: u64,
-    byte: u8,
-    class: ByteClass,
+    next: NextByte,
 ) -> Result<Reader, TermRefusal>
-    requires { class ≡ class_of byte }
-    ensures { Answers result (after_quotes class (reverse levels.open) levels.begun at chars byte) }
+    requires { next.class ≡ class_of next.byte }
+    ensures { Answers result (after_quotes next.class (reverse levels.open) levels.begun next.at chars next.byte) }
 {
-    match class {
+    match next.class {
         ByteClass::Blank => Ok(Reader {
             levels,
             last: Last::Quoted(chars),
         }),
         ByteClass::Parenthesis => levels.descend(alloc, Opener::Call(chars)),
-        _ => after_body(alloc, levels, Kind::Str(chars), at, byte, class),
+        _ => after_body(alloc, levels, Kind::Str(chars), next),
     }
 }

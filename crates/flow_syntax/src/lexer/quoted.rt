@@ -1,38 +1,33 @@
 ghost use Rattle.std.specs.Prelude.{◌≡◌, ◌+◌, ◌^◌, ◌<◌, length, slice_get, Some, IsUtf8};
-ghost use Rattle.flow_syntax.specs.Lexing.{octal_value, escape_at, part_at, quoted_kind, IsStep};
+ghost use Rattle.flow_syntax.specs.Lexing.{octal_at, escape_at, part_at, quoted_kind, IsStep};
 
 use super::refusal::{LexFaultKind, LexRefusal};
 use flow_term::{List, Text};
+use quoted_text::{octal_byte, short_escape};
 use std::alloc::Global;
-
-/// The byte that three octal digits write, if it is one of ASCII.
-fn octal_value(high: u8, middle: u8, low: u8) -> Option<u8>
-    ensures { result ≡ octal_value high middle low }
-{
-    match (high, middle, low) {
-        (b'0'..=b'1', b'0'..=b'7', b'0'..=b'7') => {
-            Some((high - b'0') * 64 + (middle - b'0') * 8 + (low - b'0'))
-        }
-        _ => None,
-    }
-}
 
 /// What a backslash and the bytes behind it stand for, and how many bytes that are, the backslash included.
 fn escape_at(behind: &[u8]) -> Option<(u8, usize)>
     ensures { result ≡ escape_at behind.now }
 {
+    let first = behind.first()?;
+    if let Some(byte) = short_escape(*first) {
+        return Some((byte, 2));
+    }
+    octal_at(behind)
+}
+
+/// What a backslash and three octal digits behind it stand for, and how many bytes that are.
+fn octal_at(behind: &[u8]) -> Option<(u8, usize)>
+    ensures { result ≡ octal_at behind.now }
+{
     match behind {
-        [b'"', ..] => Some((b'"', 2)),
-        [b'\\', ..] => Some((b'\\', 2)),
-        [b'n', ..] => Some((b'\n', 2)),
-        [b't', ..] => Some((b'\t', 2)),
-        [b'r', ..] => Some((b'\r', 2)),
-        [high, middle, low, ..] => Some((octal_value(*high, *middle, *low)?, 4)),
+        [high, middle, low, ..] => Some((octal_byte(*high, *middle, *low)?, 4)),
         _ => None,
     }
 }
 
-/// The byte that the first part of quoted bytes stands for, and how many bytes the part has.
+/// The byte that the first piece of quoted bytes stands for, and how many bytes the piece has.
 ///
 /// There is none at a quote, at a backslash that begins no escape, and at the end.
 fn part_at(bytes: &[u8]) -> Option<(u8, usize)>

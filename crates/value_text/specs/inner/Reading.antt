@@ -14,12 +14,13 @@ use Rattle.flow_term.specs.declared.value.Value.TheVariants as value
 use Rattle.flow_term.specs.declared.path_text.PathRefusal.{PathRefusal}
 use Rattle.flow_term.specs.declared.path_text.PathRefusal.TheVariants as paths
 use Rattle.flow_term.specs.Paths.{path_text}
-use Rattle.flow_syntax.specs.Lexing.{octal_value}
 use Rattle.flow_syntax.specs.Tokens.{is_name_byte, reserved_words}
+use Rattle.quoted_text.specs.Escapes.{octal_byte, short_escape}
+use Rattle.quoted_text.specs.Spellings.{byte_text}
 use Rattle.value_text.specs.declared.refusal.ValueRefusal.{ValueRefusal}
 use Rattle.value_text.specs.declared.refusal.ValueRefusal.TheVariants.{Form, NoMemory}
 use Rattle.value_text.specs.Rising.{rises}
-use Rattle.value_text.specs.Texts.{byte_text, keys}
+use Rattle.value_text.specs.Texts.{keys}
 
 -- -- answers
 
@@ -96,16 +97,23 @@ text_of bs = if is_utf8 bs then Some bs else None
 
 -- the byte that three octal digits stand for
 abbrev pub octal_at : List ℕ → Reading ℕ
-octal_at (h ∷ m ∷ l ∷ rest) = option_map (λ b. (b, rest)) (octal_value h m l)
+octal_at (h ∷ m ∷ l ∷ rest) = option_map (λ b. (b, rest)) (octal_byte h m l)
 octal_at _ = None
+
+-- what begins with no short escape: three octal digits, or a byte that stands for itself
+abbrev pub long_of : List ℕ → Reading ℕ
+long_of [] = None
+long_of (b ∷ rest) = if is_ascii_digit b then octal_at (b ∷ rest) else Some (b, rest)
+
+-- the same, from what the first byte stands for by itself
+abbrev pub escape_from : Option ℕ → List ℕ → Reading ℕ
+escape_from (Some c) bs = Some (c, drop 1 bs)
+escape_from None bs = long_of bs
 
 -- the byte that stands behind a backslash, or that it stands for
 abbrev pub escape_of : List ℕ → Reading ℕ
 escape_of [] = None
-escape_of (b ∷ rest) = if b == 110 then Some (10, rest)
-    else (if b == 116 then Some (9, rest)
-    else (if b == 114 then Some (13, rest)
-    else (if is_ascii_digit b then octal_at (b ∷ rest) else Some (b, rest))))
+escape_of (b ∷ rest) = escape_from (short_escape b) (b ∷ rest)
 
 abbrev pub spelled : List ℕ → Reading ℕ
 spelled [] = None

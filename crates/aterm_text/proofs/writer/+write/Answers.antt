@@ -1,7 +1,6 @@
-use Rattle.std.proofs.Common.{◌≡◌, ℕ, List, ◌++◌, sym, ap, ◌∙◌, subst, map}
+use Rattle.std.proofs.Common.{List, ◌++◌, sym, ap, ◌∙◌, subst, map}
 use Rattle.std.specs.List.{AllByRecursion}
 use Rattle.flow_term.specs.declared.term.Term.{Term, out-Term}
-use Rattle.flow_term.specs.declared.term.Kind.{Kind}
 use Rattle.aterm_text.specs.Written.{KindReadsBack, ReadsBack, bracketed, written}
 use Rattle.aterm_text.proofs.Texts.{apply_back, tuple_back, items_back, int_back, text_back, term_back, bare_back, annotated_written, read_back_more, on_ok, on_any, no_length, texts_behind}
 use Rattle.aterm_text.proofs.writer.+write.Goals as goal

@@ -1,12 +1,10 @@
-use Rattle.std.proofs.Common.{◌≡◌, Some, take, sym, subst, arith}
-use Rattle.std.proofs.lemmas.List.{length-take-le}
+use Rattle.std.proofs.Common.{Some, take, sym, subst, arith}
 use Rattle.flow_syntax.specs.declared.lexer.piece.Piece.TheVariants as pieces
 use Rattle.flow_syntax.specs.declared.token.TokenKind.TheVariants as kinds
-use Rattle.flow_syntax.specs.Lexing.{first_piece}
 use Rattle.flow_syntax.proofs.Steps.{Passes, no_piece, blank_passes, name_passes, symbol_passes, number_passes, number_too_large}
 use Rattle.flow_syntax.proofs.Lexemes.{piece_number}
 use Rattle.flow_syntax.proofs.Numbers.{number_found, number_none}
-use Rattle.flow_syntax.proofs.Pieces.{piece_within, symbol_text, name_text}
+use Rattle.flow_syntax.proofs.Pieces.{piece_taken, symbol_text, name_text}
 use Rattle.flow_syntax.proofs.lexer.read_piece.Goals as goal
 
 pub returns-in_default : goal.returns-in_default
@@ -14,24 +12,21 @@ returns-in_default c = rw c.at.ensures (0, omega arith, no_piece c.args.bytes.no
 
 pub slice_bounds-name_kind-end : goal.slice_bounds-name_kind-end
 slice_bounds-name_kind-end c =
-    let e : first_piece c.args.bytes.now ≡ Some (pieces.Name c.in-Name.len) = cc in
-    sym (length-take-le c.in-Name.len c.args.bytes.now (piece_within c.args.bytes.now (pieces.Name c.in-Name.len) e).1)
+    sym (piece_taken c.args.bytes.now (pieces.Name c.in-Name.len) cc)
 
 pub name_kind-requires : goal.name_kind-requires
 name_kind-requires c = name_text c.args.bytes.now c.in-Name.len cc
 
 pub slice_bounds-number_of-end : goal.slice_bounds-number_of-end
 slice_bounds-number_of-end c =
-    let e : first_piece c.args.bytes.now ≡ Some (pieces.Number c.in-Number.len) = cc in
-    sym (length-take-le c.in-Number.len c.args.bytes.now (piece_within c.args.bytes.now (pieces.Number c.in-Number.len) e).1)
+    sym (piece_taken c.args.bytes.now (pieces.Number c.in-Number.len) cc)
 
 pub number_of-requires : goal.number_of-requires
 number_of-requires c = piece_number c.args.bytes.now c.in-Number.len cc
 
 pub slice_bounds-text_of-end : goal.slice_bounds-text_of-end
 slice_bounds-text_of-end c =
-    let e : first_piece c.args.bytes.now ≡ Some (pieces.Symbol c.in-Symbol.len) = cc in
-    sym (length-take-le c.in-Symbol.len c.args.bytes.now (piece_within c.args.bytes.now (pieces.Symbol c.in-Symbol.len) e).1)
+    sym (piece_taken c.args.bytes.now (pieces.Symbol c.in-Symbol.len) cc)
 
 pub text_of-requires : goal.text_of-requires
 text_of-requires c = symbol_text c.args.bytes.now c.in-Symbol.len cc

@@ -1,4 +1,5 @@
--- A `List` splits into its length and its items, as the `Vec` that it keeps does.
+-- A `List` splits into its length and its items, as the `Vec` that it keeps does. The compiler reads `the_former`, `the_weighed`, `the_empty`,
+-- `the_items`, `the_items_listed`, `the_places` and `the_codes_placed` by these names.
 use mathlib.Core.Path.{◌≡◌, refl, sym}
 use mathlib.Core.List.{List as Sequence, []}
 use mathlib.Core.Former.{Former, this, list, via, children}

@@ -1,4 +1,4 @@
--- How deep a pattern looks, by its layer.
+-- How deep a pattern looks, by one layer of it.
 use Rattle.std.proofs.Common.{◌≡◌, ℕ, suc, ◌+◌, Bool, false, ◌||◌, List, [], ◌∷◌, map, add-one, refl, sym, ap, ◌∙◌, nat_lt}
 use Rattle.std.specs.List.{list_any}
 use Rattle.flow_syntax.specs.declared.pattern.Pattern.{Pattern, out-Pattern, fold_out-Pattern}

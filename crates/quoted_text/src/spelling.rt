@@ -1,7 +1,6 @@
 //! The one spelling of a byte between quotes.
 ghost use Rattle.std.specs.Prelude.{◌≡◌};
-ghost use Rattle.value_text.specs.inner.Spellings.{spelling_text};
-ghost use Rattle.value_text.specs.Texts.{byte_text, octal_escape};
+ghost use Rattle.quoted_text.specs.Spellings.{byte_text, octal_escape, spelling_text};
 
 /// How a byte is spelled between quotes.
 #[derive(Clone, Copy)]
