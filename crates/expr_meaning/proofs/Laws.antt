@@ -15,4 +15,4 @@ modes_right spec usable range tables vs e typed low high possible_low possible_h
 
 pub no_others_made : NoOthersAreMade
 no_others_made spec usable range tables among given parts made vs e typed is_given at suits there =
-    all_made spec usable range (all_sound spec usable range tables.results tables.lawful) (λ x. IsTrue (among x)) given parts made e is_given vs typed at suits there
+    all_made spec usable range (all_sound spec usable range tables.results tables.lawful) (λ s x. IsTrue (among s x)) given parts made e is_given vs typed at suits there

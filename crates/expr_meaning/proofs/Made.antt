@@ -1,5 +1,5 @@
 -- The meaning of a typed expression holds only elements that it is given or makes itself: the induction.
-use Rattle.std.proofs.Common.{◌≡◌, ℕ, Bool, true, false, cond, List, [], ◌∷◌, map, Option, Some, None, refl, sym, ap, subst}
+use Rattle.std.proofs.Common.{◌≡◌, ℕ, Bool, true, false, cond, List, [], ◌∷◌, ◌++◌, map, Option, Some, None, refl, sym, ap, subst}
 use Rattle.std.specs.Prelude.{All, Contains, bytes_eq}
 use Rattle.std.specs.List.{AllByRecursion}
 use Rattle.std.proofs.lemmas.List.Elements.{All-nil, All-cons}
@@ -14,7 +14,7 @@ use Rattle.flow_syntax.specs.declared.tables.EnumDecl.{EnumDecl}
 use Rattle.flow_syntax.specs.Expressions.{ExprLayer, expr_layer, parts_in, parts_of}
 use Rattle.flow_syntax.specs.Parts.{part}
 use Rattle.flow_syntax.specs.Inferred.{enum_with}
-use Rattle.flow_syntax.specs.Types.{Sort}
+use Rattle.flow_syntax.specs.Types.{Sort, str_sort}
 use Rattle.flow_syntax.proofs.Parts.{given_layer, by_parts_out, by_induction}
 use Rattle.value_domains.specs.Values.{IsOfSort, map_in}
 use Rattle.value_domains.specs.Domains.{Domain, flat, map_to, IsValueOf}
@@ -32,7 +32,7 @@ both_all P Q R join [] h k = tt
 both_all P Q R join (x ∷ xs) h k = (join x h.0 k.0, both_all P Q R join xs h.1 k.1)
 
 module _ (spec : Spec) (usable : Usable) (range : Expr → Range) (sound : (e : Expr) (vs : List Variable) → AreTyped spec usable range (held vs e ∷ []) → (at : Situation) → Suits usable vs at → IsIn (range e) (meaning spec range e at))
-    (Among : Elem → Type 0) (given : List Expr) (has_parts : HasParts given) (made : HasMade Among spec given) where
+    (Among : Sort → Elem → Type 0) (given : List Expr) (has_parts : HasParts given) (made : HasMade Among spec given) where
   abbrev M : Expr → Sense
   M = meaning spec range
 
@@ -41,7 +41,7 @@ module _ (spec : Spec) (usable : Usable) (range : Expr → Range) (sound : (e : 
 
   -- what it means holds only these, wherever it is typed
   abbrev MakesThese : Expr → Type 0
-  MakesThese e = (vs : List Variable) → Typed vs e → (at : Situation) → Suits usable vs at → SituationHolds Among usable at → MeaningHolds Among (range e) (M e at)
+  MakesThese e = (vs : List Variable) → Typed vs e → (at : Situation) → Suits usable vs at → SituationHolds Among usable vs at → MeaningHolds Among (range e) (M e at)
 
   abbrev pub IfGiven : Expr → Type 0
   IfGiven e = Contains given e → MakesThese e
@@ -52,41 +52,46 @@ module _ (spec : Spec) (usable : Usable) (range : Expr → Range) (sound : (e : 
   constant_holds (Some e) own x is h = subst (λ r. MeaningHolds Among r (constant_meaning (Some e) x)) (sym h) (made.items x e is)
   constant_holds None own x is h = subst (λ r. MeaningHolds Among r (constant_meaning {X = EnumDecl} None x)) (sym h.1) tt
 
-  name_holds : (o : Option Variable) (b : Option Bound) (own : Range) (x : List ℕ) → IsBoundAs o b → IsNamed spec o (enum_with spec x) own x → BoundHolds Among b → MeaningHolds Among own (name_meaning spec b x)
+  name_holds : (o : Option Variable) (b : Option Bound) (own : Range) (x : List ℕ) → IsBoundAs o b → IsNamed spec o (enum_with spec x) own x → BoundHolds Among o b → MeaningHolds Among own (name_meaning spec b x)
   name_holds (Some v) (Some b) own x h k m = subst (λ r. MeaningHolds Among r (name_meaning spec (Some b) x)) (sym k) m
   name_holds None None own x h k m = constant_holds (enum_with spec x) own x refl k
   name_holds (Some v) None own x h k m = absurd h
   name_holds None (Some b) own x h k m = absurd h
 
-  bound_more : (o : Option Bound) (t : Bool) (b : Bound) → BoundHolds Among o → Among b.value → BoundHolds Among (or_else o (cond t (Some b) None))
-  bound_more (Some c) t b h k = h
-  bound_more None true b h k = k
-  bound_more None false b h k = tt
+  bound_more : (o : Option Variable) (c : Option Bound) (t : Bool) (v : Variable) (b : Bound) → IsBoundAs o c → BoundHolds Among o c → Among v.sort b.value
+      → BoundHolds Among (or_else o (cond t (Some v) None)) (or_else c (cond t (Some b) None))
+  bound_more (Some u) (Some c) t v b is h k = h
+  bound_more None None true v b is h k = k
+  bound_more None None false v b is h k = tt
+  bound_more (Some u) None t v b is h k = absurd is
+  bound_more None (Some c) t v b is h k = absurd is
 
   -- a situation with one more variable that is bound to one of these
-  holds_more : (at : Situation) (x : List ℕ) (e : Elem) → SituationHolds Among usable at → Among e → SituationHolds Among usable (with_bound at x e)
-  holds_more at x e h k = record {
-    bound = λ y used. subst (BoundHolds Among) (sym (find_more (λ b. bytes_eq y b.name) at.bindings (record { name = x; value = e })))
-        (bound_more (bound_to at.bindings y) (bytes_eq y x) (record { name = x; value = e }) (h.bound y used) k);
+  holds_more : (vs : List Variable) (at : Situation) (x : List ℕ) (s : Sort) (e : Elem) → Suits usable vs at → SituationHolds Among usable vs at → Among s e → SituationHolds Among usable (and_variable vs x s) (with_bound at x e)
+  holds_more vs at x s e suits h k = record {
+    bound = λ y used.
+        subst (λ (o : Option Variable). BoundHolds Among o (bound_to (at.bindings ++ record { name = x; value = e } ∷ []) y)) (sym (find_more (λ v. bytes_eq y v.name) vs (record { name = x; sort = s })))
+        (subst (λ (o : Option Bound). BoundHolds Among (or_else (variable_of vs y) (cond (bytes_eq y x) (Some (record { name = x; sort = s })) None)) o) (sym (find_more (λ b. bytes_eq y b.name) at.bindings (record { name = x; value = e })))
+        (bound_more (variable_of vs y) (bound_to at.bindings y) (bytes_eq y x) _ _ (suits.bound y used) (h.bound y used) k));
     reads = h.reads;
   }
 
   -- PARTS
 
-  module _ (vs : List Variable) (at : Situation) (suits : Suits usable vs at) (held_there : SituationHolds Among usable at) where
+  module _ (vs : List Variable) (at : Situation) (suits : Suits usable vs at) (held_there : SituationHolds Among usable vs at) where
     value_held : (e : Expr) (d : Domain) → range e ≡ values d → Typed vs e → MakesThese e → Holds Among d (value_in (M e at))
     value_held e d is typed makes = subst (λ r. MeaningHolds Among r (M e at)) is (makes vs typed at suits held_there)
 
-    elem_held : (e : Expr) (s : Sort) → range e ≡ elements s → Typed vs e → MakesThese e → Among (elem_in (M e at))
+    elem_held : (e : Expr) (s : Sort) → range e ≡ elements s → Typed vs e → MakesThese e → Among s (elem_in (M e at))
     elem_held e s is typed makes = subst (λ r. MeaningHolds Among r (M e at)) is (makes vs typed at suits held_there)
 
     value_valid : (e : Expr) (d : Domain) → range e ≡ values d → Typed vs e → IsValueOf d (value_in (M e at))
     value_valid e d is typed = value_fact d (M e at) (subst (λ r. IsIn r (M e at)) is (sound e vs typed at suits))
 
-    elems_held : (s : Sort) (es : List Expr) → AllByRecursion (λ e. range e ≡ elements s) es → AreTyped spec usable range (map (held vs) es) → AllByRecursion MakesThese es → All Among (elems_given at (map (λ e. part e (M e)) es))
-    elems_held s [] are typed makes = All-nil Among
+    elems_held : (s : Sort) (es : List Expr) → AllByRecursion (λ e. range e ≡ elements s) es → AreTyped spec usable range (map (held vs) es) → AllByRecursion MakesThese es → All (Among s) (elems_given at (map (λ e. part e (M e)) es))
+    elems_held s [] are typed makes = All-nil (Among s)
     elems_held s (e ∷ es) are typed makes =
-        All-cons Among (elem_in (M e at)) (elems_given at (map (λ e. part e (M e)) es)) (elem_held e s are.0 (first_typed _ _ typed) makes.0) (elems_held s es are.1 (rest_typed _ _ typed) makes.1)
+        All-cons (Among s) (elem_in (M e at)) (elems_given at (map (λ e. part e (M e)) es)) (elem_held e s are.0 (first_typed _ _ typed) makes.0) (elems_held s es are.1 (rest_typed _ _ typed) makes.1)
 
     values_held : (d : Domain) (es : List Expr) → AllByRecursion (λ e. range e ≡ values d) es → AreTyped spec usable range (map (held vs) es) → AllByRecursion MakesThese es → All (Holds Among d) (values_given at (map (λ e. part e (M e)) es))
     values_held d [] are typed makes = All-nil (Holds Among d)
@@ -94,15 +99,15 @@ module _ (spec : Spec) (usable : Usable) (range : Expr → Range) (sound : (e : 
         All-cons (Holds Among d) (value_in (M e at)) (values_given at (map (λ e. part e (M e)) es)) (value_held e d are.0 (first_typed _ _ typed) makes.0) (values_held d es are.1 (rest_typed _ _ typed) makes.1)
 
     -- what a part makes where one more variable is bound
-    elem_inside : (e : Expr) (s t : Sort) (x : List ℕ) (r : Range) → range e ≡ elements s → elements_of r ≡ t → Typed (and_variable vs x (elements_of r)) e → MakesThese e → (v : Elem) → IsOfSort t v → Among v → Among (elem_in (M e (with_bound at x v)))
+    elem_inside : (e : Expr) (s t : Sort) (x : List ℕ) (r : Range) → range e ≡ elements s → elements_of r ≡ t → Typed (and_variable vs x (elements_of r)) e → MakesThese e → (v : Elem) → IsOfSort t v → Among t v → Among s (elem_in (M e (with_bound at x v)))
     elem_inside e s t x r is sorted typed makes v of_sort among =
         subst (λ r. MeaningHolds Among r (M e (with_bound at x v))) is
-        (makes (and_variable vs x (elements_of r)) typed (with_bound at x v) (suits_more usable vs at x (elements_of r) v suits (subst (λ s. IsOfSort s v) (sym sorted) of_sort)) (holds_more at x v held_there among))
+        (makes (and_variable vs x (elements_of r)) typed (with_bound at x v) (suits_more usable vs at x (elements_of r) v suits (subst (λ s. IsOfSort s v) (sym sorted) of_sort)) (holds_more vs at x (elements_of r) v suits held_there (subst (λ s. Among s v) (sym sorted) among)))
 
-    value_inside : (e : Expr) (d : Domain) (t : Sort) (x : List ℕ) (r : Range) → range e ≡ values d → elements_of r ≡ t → Typed (and_variable vs x (elements_of r)) e → MakesThese e → (v : Elem) → IsOfSort t v → Among v → Holds Among d (value_in (M e (with_bound at x v)))
+    value_inside : (e : Expr) (d : Domain) (t : Sort) (x : List ℕ) (r : Range) → range e ≡ values d → elements_of r ≡ t → Typed (and_variable vs x (elements_of r)) e → MakesThese e → (v : Elem) → IsOfSort t v → Among t v → Holds Among d (value_in (M e (with_bound at x v)))
     value_inside e d t x r is sorted typed makes v of_sort among =
         subst (λ r. MeaningHolds Among r (M e (with_bound at x v))) is
-        (makes (and_variable vs x (elements_of r)) typed (with_bound at x v) (suits_more usable vs at x (elements_of r) v suits (subst (λ s. IsOfSort s v) (sym sorted) of_sort)) (holds_more at x v held_there among))
+        (makes (and_variable vs x (elements_of r)) typed (with_bound at x v) (suits_more usable vs at x (elements_of r) v suits (subst (λ s. IsOfSort s v) (sym sorted) of_sort)) (holds_more vs at x (elements_of r) v suits held_there (subst (λ s. Among s v) (sym sorted) among)))
 
     branch_holds : (own : Range) (t : Bool) (x y : Meaning) → MeaningHolds Among own x → MeaningHolds Among own y → MeaningHolds Among own (cond t x y)
     branch_holds own true x y h k = h
@@ -113,7 +118,7 @@ module _ (spec : Spec) (usable : Usable) (range : Expr → Range) (sound : (e : 
     abbrev Goal : ExprLayer → Range → Type 0
     Goal layer r = MeaningHolds Among r (form_meaning spec (domain_in r) (given_layer M layer) at)
 
-    by_form : (own : Range) (layer : ExprLayer) → ((s : List ℕ) → layer ≡ ExprKind-F.Str s → Among (elem.Str s)) → HasForm spec usable range vs own layer → AreTyped spec usable range (held_parts range vs layer) → AllByRecursion MakesThese (parts_in layer) → Goal layer own
+    by_form : (own : Range) (layer : ExprLayer) → ((s : List ℕ) → layer ≡ ExprKind-F.Str s → Among str_sort (elem.Str s)) → HasForm spec usable range vs own layer → AreTyped spec usable range (held_parts range vs layer) → AllByRecursion MakesThese (parts_in layer) → Goal layer own
     by_form own (ExprKind-F.Int n) text form typed makes = subst (λ r. Goal (ExprKind-F.Int n) r) (sym form) (made.integers n)
     by_form own (ExprKind-F.Str s) text form typed makes = subst (λ r. Goal (ExprKind-F.Str s) r) (sym form) (text s refl)
     by_form own (ExprKind-F.Truth t) text form typed makes = subst (λ r. Goal (ExprKind-F.Truth t) r) (sym form) tt
@@ -128,7 +133,7 @@ module _ (spec : Spec) (usable : Usable) (range : Expr → Range) (sound : (e : 
     by_form own (ExprKind-F.Set2 o a c) text (d, operand, is_own, is_a, is_c) typed makes =
         subst (λ r. Goal (ExprKind-F.Set2 o a c) r) (sym is_own)
         (operation_holds Among o d operand (value_in (M a at)) (value_in (M c at)) (value_held a d is_a (first_typed _ _ typed) makes.0) (value_held c d is_c (rest_typed _ _ typed) makes.1.0))
-    by_form own (ExprKind-F.SetOf es) text (d, sets, is_own, are) typed makes = subst (λ r. Goal (ExprKind-F.SetOf es) r) (sym is_own) (set_holds Among d sets _ (made_set Among _ (elems_held (sort_in d) es are typed makes)))
+    by_form own (ExprKind-F.SetOf es) text (d, sets, is_own, are) typed makes = subst (λ r. Goal (ExprKind-F.SetOf es) r) (sym is_own) (set_holds Among d sets _ (made_set Among (sort_in d) _ (elems_held (sort_in d) es are typed makes)))
     by_form own (ExprKind-F.Compare o a c) text (s, is_own, is_a, is_c) typed makes = subst (λ r. Goal (ExprKind-F.Compare o a c) r) (sym is_own) tt
     by_form own (ExprKind-F.Member e f) text (d, sets, is_own, is_f, is_e) typed makes = subst (λ r. Goal (ExprKind-F.Member e f) r) (sym is_own) tt
     by_form own (ExprKind-F.And a c) text (is_own, is_a, is_c) typed makes = subst (λ r. Goal (ExprKind-F.And a c) r) (sym is_own) tt
@@ -162,14 +167,14 @@ module _ (spec : Spec) (usable : Usable) (range : Expr → Range) (sound : (e : 
     by_form own (ExprKind-F.Update m k v) text (s, d, is_own, is_m, is_k, is_v) typed makes =
         let others = rest_typed _ _ typed in
         subst (λ r. Goal (ExprKind-F.Update m k v) r) (sym is_own)
-        (map_holds Among s d _ (update_holds Among d _ (elem_in (M k at)) (value_in (M v at)) (value_held m (map_to s d) is_m (first_typed _ _ typed) makes.0)
+        (map_holds Among s d _ (update_holds Among s d _ (elem_in (M k at)) (value_in (M v at)) (value_held m (map_to s d) is_m (first_typed _ _ typed) makes.0)
         (elem_held k s is_k (first_typed _ _ others) makes.1.0) (value_held v d is_v (rest_typed _ _ others) makes.1.1.0)))
     by_form own (ExprKind-F.Call f args) text (d, named, is_own, have) typed makes = subst (λ r. Goal (ExprKind-F.Call f args) r) (sym is_own) tt
     by_form own (ExprKind-F.MapOf ks ws) text (s, d, is_own, are_keys, are_values) typed makes =
         let typed_parts = split_typed (map (held vs) ks) (map (held vs) ws) typed in
         let made_parts = split_all MakesThese ks ws makes in
         subst (λ r. Goal (ExprKind-F.MapOf ks ws) r) (sym is_own)
-        (map_holds Among s d _ (map_of_holds Among d _ _ [] (nothing_holds Among d) (elems_held s ks are_keys typed_parts.0 made_parts.0) (values_held d ws are_values typed_parts.1 made_parts.1)))
+        (map_holds Among s d _ (map_of_holds Among s d _ _ [] (nothing_holds Among s d) (elems_held s ks are_keys typed_parts.0 made_parts.0) (values_held d ws are_values typed_parts.1 made_parts.1)))
 
   by_its_parts : (e : Expr) → AllByRecursion IfGiven (parts_of e) → IfGiven e
   by_its_parts e parts is_given vs typed at suits held_there =

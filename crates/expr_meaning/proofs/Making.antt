@@ -25,77 +25,77 @@ use Rattle.expr_meaning.specs.Ranges.{Range}
 use Rattle.expr_meaning.specs.Typing.{IsIn, IsFirst, IsSecond, IsPair, of_values, of_elements, IsSets, of_may, of_must, AreAlike, both_may, both_must, sort_in, IsOperand}
 use Rattle.expr_meaning.proofs.Members.{keys_kept, values_kept}
 
-module _ (Among : Elem → Type 0) where
+module _ (Among : Sort → Elem → Type 0) where
   -- SETS
 
   -- what is held by a value with these elements
-  pub set_holds : (d : Domain) → IsSets d → (xs : List Elem) → All Among xs → Holds Among d (value.Set xs)
-  set_holds _ (of_may s) xs h = subst (λ l. All Among (elems_in l)) (sym (value.outs-Set xs)) h
-  set_holds _ (of_must s) xs h = subst (λ l. All Among (elems_in l)) (sym (value.outs-Set xs)) h
+  pub set_holds : (d : Domain) → IsSets d → (xs : List Elem) → All (Among (sort_in d)) xs → Holds Among d (value.Set xs)
+  set_holds _ (of_may s) xs h = subst (λ l. All (Among s) (elems_in l)) (sym (value.outs-Set xs)) h
+  set_holds _ (of_must s) xs h = subst (λ l. All (Among s) (elems_in l)) (sym (value.outs-Set xs)) h
 
   unreached_holds : (d : Domain) → IsSets d → Holds Among d value.Unreached
-  unreached_holds _ (of_may s) = subst (λ l. All Among (elems_in l)) (sym value.outs-Unreached) (All-nil Among)
-  unreached_holds _ (of_must s) = subst (λ l. All Among (elems_in l)) (sym value.outs-Unreached) (All-nil Among)
+  unreached_holds _ (of_may s) = subst (λ l. All (Among s) (elems_in l)) (sym value.outs-Unreached) (All-nil (Among s))
+  unreached_holds _ (of_must s) = subst (λ l. All (Among s) (elems_in l)) (sym value.outs-Unreached) (All-nil (Among s))
 
-  elems_held : (d : Domain) → IsSets d → (v : Value) → Holds Among d v → All Among (elems_in (out-Value v))
+  elems_held : (d : Domain) → IsSets d → (v : Value) → Holds Among d v → All (Among (sort_in d)) (elems_in (out-Value v))
   elems_held _ (of_may s) v h = h
   elems_held _ (of_must s) v h = h
 
-  pub made_set : (xs : List Elem) → All Among xs → All Among (set_of xs)
-  made_set xs h = all_union Among [] xs (All-nil Among) h
+  pub made_set : (s : Sort) (xs : List Elem) → All (Among s) xs → All (Among s) (set_of xs)
+  made_set s xs h = all_union (Among s) [] xs (All-nil (Among s)) h
 
   -- an operation on sets that makes no elements
-  abbrev Makes : (List Elem → List Elem → List Elem) → Type 0
-  Makes f = (a b : List Elem) → All Among a → All Among b → All Among (f a b)
+  abbrev Makes : Sort → (List Elem → List Elem → List Elem) → Type 0
+  Makes s f = (a b : List Elem) → All (Among s) a → All (Among s) b → All (Among s) (f a b)
 
-  layers_hold : (d : Domain) → IsSets d → (f : List Elem → List Elem → List Elem) → Makes f → (x y : ValueLayer) → All Among (elems_in x) → All Among (elems_in y) → Holds Among d (on_sets f x y)
+  layers_hold : (d : Domain) → IsSets d → (f : List Elem → List Elem → List Elem) → Makes (sort_in d) f → (x y : ValueLayer) → All (Among (sort_in d)) (elems_in x) → All (Among (sort_in d)) (elems_in y) → Holds Among d (on_sets f x y)
   layers_hold d sets f makes Value-F.Unreached y h k = unreached_holds d sets
   layers_hold d sets f makes x Value-F.Unreached h k = unreached_holds d sets
   layers_hold d sets f makes x y h k = set_holds d sets (f (elems_in x) (elems_in y)) (makes (elems_in x) (elems_in y) h k)
 
   -- COMPREHENSIONS
 
-  made_each : (s : Sort) (f : Elem → Elem) (c : Elem → Bool) → ((x : Elem) → IsOfSort s x → Among x → Among (f x)) → (xs : List Elem) → All (IsOfSort s) xs → All Among xs → All Among (map f (filter c xs))
-  made_each s f c each [] sorts h = All-nil Among
-  made_each s f c each (x ∷ xs) sorts h =
-      let rest = made_each s f c each xs (All-tail (IsOfSort s) x xs sorts) (All-tail Among x xs h) in
-      elim (c x) as (λ b. All Among (map f (cond b (x ∷ filter c xs) (filter c xs)))) [
-        | true ↦ All-cons Among (f x) (map f (filter c xs)) (each x (All-head (IsOfSort s) x xs sorts) (All-head Among x xs h)) rest
+  made_each : (s t : Sort) (f : Elem → Elem) (c : Elem → Bool) → ((x : Elem) → IsOfSort s x → Among s x → Among t (f x)) → (xs : List Elem) → All (IsOfSort s) xs → All (Among s) xs → All (Among t) (map f (filter c xs))
+  made_each s t f c each [] sorts h = All-nil (Among t)
+  made_each s t f c each (x ∷ xs) sorts h =
+      let rest = made_each s t f c each xs (All-tail (IsOfSort s) x xs sorts) (All-tail (Among s) x xs h) in
+      elim (c x) as (λ b. All (Among t) (map f (cond b (x ∷ filter c xs) (filter c xs)))) [
+        | true ↦ All-cons (Among t) (f x) (map f (filter c xs)) (each x (All-head (IsOfSort s) x xs sorts) (All-head (Among s) x xs h)) rest
         | false ↦ rest
       ]
 
-  may_made : (d : Domain) → IsSets d → (s : Sort) (f : Elem → Elem) (c : Elem → Bool) → ((x : Elem) → IsOfSort s x → Among x → Among (f x)) → (l : ValueLayer) → IsMay s l → All Among (elems_in l) → Holds Among d (on_set (chosen f c) l)
-  may_made d sets s f c each (Value-F.Set xs) valid h = set_holds d sets (chosen f c xs) (made_set (map f (filter c xs)) (made_each s f c each xs valid.sorts h))
+  may_made : (d : Domain) → IsSets d → (s : Sort) (f : Elem → Elem) (c : Elem → Bool) → ((x : Elem) → IsOfSort s x → Among s x → Among (sort_in d) (f x)) → (l : ValueLayer) → IsMay s l → All (Among s) (elems_in l) → Holds Among d (on_set (chosen f c) l)
+  may_made d sets s f c each (Value-F.Set xs) valid h = set_holds d sets (chosen f c xs) (made_set (sort_in d) (map f (filter c xs)) (made_each s (sort_in d) f c each xs valid.sorts h))
   may_made d sets s f c each _ valid h = absurd valid
 
-  must_made : (d : Domain) → IsSets d → (s : Sort) (f : Elem → Elem) (c : Elem → Bool) → ((x : Elem) → IsOfSort s x → Among x → Among (f x)) → (l : ValueLayer) → IsMust s l → All Among (elems_in l) → Holds Among d (on_set (chosen f c) l)
+  must_made : (d : Domain) → IsSets d → (s : Sort) (f : Elem → Elem) (c : Elem → Bool) → ((x : Elem) → IsOfSort s x → Among s x → Among (sort_in d) (f x)) → (l : ValueLayer) → IsMust s l → All (Among s) (elems_in l) → Holds Among d (on_set (chosen f c) l)
   must_made d sets s f c each Value-F.Unreached valid h = unreached_holds d sets
-  must_made d sets s f c each (Value-F.Set xs) valid h = set_holds d sets (chosen f c xs) (made_set (map f (filter c xs)) (made_each s f c each xs valid.sorts h))
+  must_made d sets s f c each (Value-F.Set xs) valid h = set_holds d sets (chosen f c xs) (made_set (sort_in d) (map f (filter c xs)) (made_each s (sort_in d) f c each xs valid.sorts h))
   must_made d sets s f c each _ valid h = absurd valid
 
-  pub chosen_holds : (d u : Domain) → AreAlike d u → (f : Elem → Elem) (c : Elem → Bool) → ((x : Elem) → IsOfSort (sort_in u) x → Among x → Among (f x)) → (v : Value) → IsValueOf u v → Holds Among u v → Holds Among d (on_set (chosen f c) (out-Value v))
+  pub chosen_holds : (d u : Domain) → AreAlike d u → (f : Elem → Elem) (c : Elem → Bool) → ((x : Elem) → IsOfSort (sort_in u) x → Among (sort_in u) x → Among (sort_in d) (f x)) → (v : Value) → IsValueOf u v → Holds Among u v → Holds Among d (on_set (chosen f c) (out-Value v))
   chosen_holds _ _ (both_may s t) f c each v valid h = may_made (may s) (of_may s) t f c each (out-Value v) valid h
   chosen_holds _ _ (both_must s t) f c each v valid h = must_made (must s) (of_must s) t f c each (out-Value v) valid h
 
   -- JOINS
 
-  must_joins : (x y : ValueLayer) → All Among (elems_in x) → All Among (elems_in y) → All Among (elems_in (must_join x y))
-  must_joins Value-F.Unreached y h k = k
-  must_joins (Value-F.Set xs) (Value-F.Set ys) h k = All-filter (λ x. has_elem ys x) Among xs h
-  must_joins (Value-F.Set xs) _ h k = h
-  must_joins _ y h k = All-nil Among
+  must_joins : (s : Sort) (x y : ValueLayer) → All (Among s) (elems_in x) → All (Among s) (elems_in y) → All (Among s) (elems_in (must_join x y))
+  must_joins s Value-F.Unreached y h k = k
+  must_joins s (Value-F.Set xs) (Value-F.Set ys) h k = All-filter (λ x. has_elem ys x) (Among s) xs h
+  must_joins s (Value-F.Set xs) _ h k = h
+  must_joins s _ y h k = All-nil (Among s)
 
-  same_or_top : (b : Bool) (x : Elem) → Among x → FlatHolds Among (cond b (Value-F.Flat x) Value-F.Top)
-  same_or_top true x h = h
-  same_or_top false x h = tt
+  same_or_top : (s : Sort) (b : Bool) (x : Elem) → Among s x → FlatHolds (Among s) (cond b (Value-F.Flat x) Value-F.Top)
+  same_or_top s true x h = h
+  same_or_top s false x h = tt
 
-  flat_joins : (x y : ValueLayer) → FlatHolds Among x → FlatHolds Among y → FlatHolds Among (flat_join x y)
-  flat_joins Value-F.Bottom y h k = k
-  flat_joins (Value-F.Flat x) Value-F.Bottom h k = h
-  flat_joins (Value-F.Flat x) (Value-F.Flat y) h k = same_or_top (eq_by_cmp elem_cmp x y) x h
-  flat_joins (Value-F.Flat x) _ h k = tt
-  flat_joins _ Value-F.Bottom h k = tt
-  flat_joins _ _ h k = tt
+  flat_joins : (s : Sort) (x y : ValueLayer) → FlatHolds (Among s) x → FlatHolds (Among s) y → FlatHolds (Among s) (flat_join x y)
+  flat_joins s Value-F.Bottom y h k = k
+  flat_joins s (Value-F.Flat x) Value-F.Bottom h k = h
+  flat_joins s (Value-F.Flat x) (Value-F.Flat y) h k = same_or_top s (eq_by_cmp elem_cmp x y) x h
+  flat_joins s (Value-F.Flat x) _ h k = tt
+  flat_joins s _ Value-F.Bottom h k = tt
+  flat_joins s _ _ h k = tt
 
   -- an optional value
   abbrev IfSome : (Value → Type 0) → Option Value → Type 0
@@ -119,22 +119,22 @@ module _ (Among : Elem → Type 0) where
       (All-values-insert_entry elem_cmp e.0 (joined_to join (value_at a e.0) e.1) P a h (to_there P join joins (value_at a e.0) e.1 (held_at P a e.0 h) (All-head P e.1 (values_of es) k))) (All-tail P e.1 (values_of es) k)
 
   -- what a map holds
-  abbrev EntriesHold : Domain → List (Elem × Value) → Type 0
-  EntriesHold d m = All Among (keys_of m) × All (Holds Among d) (values_of m)
+  abbrev EntriesHold : Sort → Domain → List (Elem × Value) → Type 0
+  EntriesHold s d m = All (Among s) (keys_of m) × All (Holds Among d) (values_of m)
 
-  pub map_holds : (s : Sort) (d : Domain) (m : List (Elem × Value)) → EntriesHold d m → Holds Among (map_to s d) (value.Map (entries_of m))
-  map_holds s d m h = subst (λ l. EntriesHold d (map_in l)) (sym (value.outs-Map (entries_of m))) (subst (EntriesHold d) (sym (pairs_back m)) h)
+  pub map_holds : (s : Sort) (d : Domain) (m : List (Elem × Value)) → EntriesHold s d m → Holds Among (map_to s d) (value.Map (entries_of m))
+  map_holds s d m h = subst (λ l. EntriesHold s d (map_in l)) (sym (value.outs-Map (entries_of m))) (subst (EntriesHold s d) (sym (pairs_back m)) h)
 
   pair_holds : (a b : Domain) (v w : Value) → Holds Among a v → Holds Among b w → Holds Among (pair_of a b) (value.Pair v w)
   pair_holds a b v w h k = subst (λ l. Holds Among a (left_in l) × Holds Among b (right_in l)) (sym (value.outs-Pair v w)) (h, k)
 
   pub join_holds : (d : Domain) (v w : Value) → Holds Among d v → Holds Among d w → Holds Among d (joined_of d v w)
-  join_holds (may s) v w h k = set_holds (may s) (of_may s) (union_of (elems_in (out-Value v)) (elems_in (out-Value w))) (all_union Among (elems_in (out-Value v)) (elems_in (out-Value w)) h k)
-  join_holds (must s) v w h k = subst (λ l. All Among (elems_in l)) (sym (out-roll-Value (must_join (out-Value v) (out-Value w)))) (must_joins (out-Value v) (out-Value w) h k)
-  join_holds (flat s) v w h k = subst (FlatHolds Among) (sym (out-roll-Value (flat_join (out-Value v) (out-Value w)))) (flat_joins (out-Value v) (out-Value w) h k)
+  join_holds (may s) v w h k = set_holds (may s) (of_may s) (union_of (elems_in (out-Value v)) (elems_in (out-Value w))) (all_union (Among s) (elems_in (out-Value v)) (elems_in (out-Value w)) h k)
+  join_holds (must s) v w h k = subst (λ l. All (Among s) (elems_in l)) (sym (out-roll-Value (must_join (out-Value v) (out-Value w)))) (must_joins s (out-Value v) (out-Value w) h k)
+  join_holds (flat s) v w h k = subst (FlatHolds (Among s)) (sym (out-roll-Value (flat_join (out-Value v) (out-Value w)))) (flat_joins s (out-Value v) (out-Value w) h k)
   join_holds (map_to s d) v w h k =
       map_holds s d (map_join (joined_of d) (map_in (out-Value v)) (map_in (out-Value w)))
-      (all_keys Among (joined_of d) (map_in (out-Value v)) (map_in (out-Value w)) h.0 k.0, maps_join (Holds Among d) (joined_of d) (λ x y. join_holds d x y) (map_in (out-Value v)) (map_in (out-Value w)) h.1 k.1)
+      (all_keys (Among s) (joined_of d) (map_in (out-Value v)) (map_in (out-Value w)) h.0 k.0, maps_join (Holds Among d) (joined_of d) (λ x y. join_holds d x y) (map_in (out-Value v)) (map_in (out-Value w)) h.1 k.1)
   join_holds (pair_of a b) v w h k =
       pair_holds a b (joined_of a (left_in (out-Value v)) (left_in (out-Value w))) (joined_of b (right_in (out-Value v)) (right_in (out-Value w)))
       (join_holds a (left_in (out-Value v)) (left_in (out-Value w)) h.0 k.0) (join_holds b (right_in (out-Value v)) (right_in (out-Value w)) h.1 k.1)
@@ -142,17 +142,17 @@ module _ (Among : Elem → Type 0) where
 
   pub operation_holds : (o : SetOp) (d : Domain) → IsOperand o d → (v w : Value) → Holds Among d v → Holds Among d w → Holds Among d (operation o d v w)
   operation_holds op.Join d operand v w h k = join_holds d v w h k
-  operation_holds op.Union d sets v w h k = layers_hold d sets union_of (all_union Among) (out-Value v) (out-Value w) (elems_held d sets v h) (elems_held d sets w k)
-  operation_holds op.Inter d sets v w h k = layers_hold d sets intersection_of (λ a b ha hb. All-filter (λ x. has_elem b x) Among a ha) (out-Value v) (out-Value w) (elems_held d sets v h) (elems_held d sets w k)
-  operation_holds op.Minus d sets v w h k = layers_hold d sets difference_of (λ a b ha hb. All-filter (λ x. not (has_elem b x)) Among a ha) (out-Value v) (out-Value w) (elems_held d sets v h) (elems_held d sets w k)
+  operation_holds op.Union d sets v w h k = layers_hold d sets union_of (all_union (Among (sort_in d))) (out-Value v) (out-Value w) (elems_held d sets v h) (elems_held d sets w k)
+  operation_holds op.Inter d sets v w h k = layers_hold d sets intersection_of (λ a b ha hb. All-filter (λ x. has_elem b x) (Among (sort_in d)) a ha) (out-Value v) (out-Value w) (elems_held d sets v h) (elems_held d sets w k)
+  operation_holds op.Minus d sets v w h k = layers_hold d sets difference_of (λ a b ha hb. All-filter (λ x. not (has_elem b x)) (Among (sort_in d)) a ha) (out-Value v) (out-Value w) (elems_held d sets v h) (elems_held d sets w k)
 
   -- THE LEAST VALUE
 
   pub least_holds : (d : Domain) → Holds Among d (least_of d)
-  least_holds (may s) = set_holds (may s) (of_may s) [] (All-nil Among)
+  least_holds (may s) = set_holds (may s) (of_may s) [] (All-nil (Among s))
   least_holds (must s) = unreached_holds (must s) (of_must s)
-  least_holds (flat s) = subst (FlatHolds Among) (sym value.outs-Bottom) tt
-  least_holds (map_to s d) = map_holds s d [] (All-nil Among, All-nil (Holds Among d))
+  least_holds (flat s) = subst (FlatHolds (Among s)) (sym value.outs-Bottom) tt
+  least_holds (map_to s d) = map_holds s d [] (All-nil (Among s), All-nil (Holds Among d))
   least_holds (pair_of a b) = pair_holds a b (least_of a) (least_of b) (least_holds a) (least_holds b)
   least_holds (listed t) = tt
 
@@ -160,18 +160,18 @@ module _ (Among : Elem → Type 0) where
   unreached_is s = unreached_holds (must s) (of_must s)
 
   pub top_holds : (s : Sort) → Holds Among (flat s) value.Top
-  top_holds s = subst (FlatHolds Among) (sym value.outs-Top) tt
+  top_holds s = subst (FlatHolds (Among s)) (sym value.outs-Top) tt
 
-  pub flat_holds : (s : Sort) (e : Elem) → Among e → Holds Among (flat s) (value.Flat e)
-  flat_holds s e h = subst (FlatHolds Among) (sym (value.outs-Flat e)) h
+  pub flat_holds : (s : Sort) (e : Elem) → Among s e → Holds Among (flat s) (value.Flat e)
+  flat_holds s e h = subst (FlatHolds (Among s)) (sym (value.outs-Flat e)) h
 
-  bind_layer : (s t : Sort) (f : Elem → Value) → ((x : Elem) → IsOfSort s x → Among x → Holds Among (flat t) (f x)) → (l : ValueLayer) → IsFlat s l → FlatHolds Among l → Holds Among (flat t) (bind_value f l)
+  bind_layer : (s t : Sort) (f : Elem → Value) → ((x : Elem) → IsOfSort s x → Among s x → Holds Among (flat t) (f x)) → (l : ValueLayer) → IsFlat s l → FlatHolds (Among s) l → Holds Among (flat t) (bind_value f l)
   bind_layer s t f each (Value-F.Flat e) valid h = each e valid h
-  bind_layer s t f each Value-F.Bottom valid h = subst (FlatHolds Among) (sym (out-roll-Value Value-F.Bottom)) tt
-  bind_layer s t f each Value-F.Top valid h = subst (FlatHolds Among) (sym (out-roll-Value Value-F.Top)) tt
+  bind_layer s t f each Value-F.Bottom valid h = subst (FlatHolds (Among t)) (sym (out-roll-Value Value-F.Bottom)) tt
+  bind_layer s t f each Value-F.Top valid h = subst (FlatHolds (Among t)) (sym (out-roll-Value Value-F.Top)) tt
   bind_layer s t f each _ valid h = absurd valid
 
-  pub bind_holds : (s t : Sort) (f : Elem → Value) → ((x : Elem) → IsOfSort s x → Among x → Holds Among (flat t) (f x)) → (v : Value) → IsValueOf (flat s) v → Holds Among (flat s) v → Holds Among (flat t) (bind_value f (out-Value v))
+  pub bind_holds : (s t : Sort) (f : Elem → Value) → ((x : Elem) → IsOfSort s x → Among s x → Holds Among (flat t) (f x)) → (v : Value) → IsValueOf (flat s) v → Holds Among (flat s) v → Holds Among (flat t) (bind_value f (out-Value v))
   bind_holds s t f each v valid h = bind_layer s t f each (out-Value v) valid h
 
   -- MAPS
@@ -183,43 +183,43 @@ module _ (Among : Elem → Type 0) where
       by (Some v) h = h
       by None h = least_holds d
 
-  without_holds : (d : Domain) (m : List (Elem × Value)) (k : Elem) → EntriesHold d m → EntriesHold d (without_key m k)
-  without_holds d m k h = (
-    subst (All Among) (sym (keys_kept (λ x. not (eq_by_cmp elem_cmp x k)) m)) (All-filter (λ x. not (eq_by_cmp elem_cmp x k)) Among (keys_of m) h.0),
+  without_holds : (s : Sort) (d : Domain) (m : List (Elem × Value)) (k : Elem) → EntriesHold s d m → EntriesHold s d (without_key m k)
+  without_holds s d m k h = (
+    subst (All (Among s)) (sym (keys_kept (λ x. not (eq_by_cmp elem_cmp x k)) m)) (All-filter (λ x. not (eq_by_cmp elem_cmp x k)) (Among s) (keys_of m) h.0),
     values_kept (Holds Among d) (λ e. not (eq_by_cmp elem_cmp e.0 k)) m h.1,
   )
 
-  entry_holds : (d : Domain) (m : List (Elem × Value)) (k : Elem) (v : Value) → EntriesHold d m → Among k → Holds Among d v → EntriesHold d (insert_entry elem_cmp m k v)
-  entry_holds d m k v h among held = (All-keys-insert_entry elem_cmp k v Among m h.0 among, All-values-insert_entry elem_cmp k v (Holds Among d) m h.1 held)
+  entry_holds : (s : Sort) (d : Domain) (m : List (Elem × Value)) (k : Elem) (v : Value) → EntriesHold s d m → Among s k → Holds Among d v → EntriesHold s d (insert_entry elem_cmp m k v)
+  entry_holds s d m k v h among held = (All-keys-insert_entry elem_cmp k v (Among s) m h.0 among, All-values-insert_entry elem_cmp k v (Holds Among d) m h.1 held)
 
-  pub update_holds : (d : Domain) (m : List (Elem × Value)) (k : Elem) (v : Value) → EntriesHold d m → Among k → Holds Among d v → EntriesHold d (updated d m k v)
-  update_holds d m k v h among held = elim (is_least d v) as (λ b. EntriesHold d (cond b (without_key m k) (insert_entry elem_cmp m k v))) [ true ↦ without_holds d m k h | false ↦ entry_holds d m k v h among held ]
+  pub update_holds : (s : Sort) (d : Domain) (m : List (Elem × Value)) (k : Elem) (v : Value) → EntriesHold s d m → Among s k → Holds Among d v → EntriesHold s d (updated d m k v)
+  update_holds s d m k v h among held = elim (is_least d v) as (λ b. EntriesHold s d (cond b (without_key m k) (insert_entry elem_cmp m k v))) [ true ↦ without_holds s d m k h | false ↦ entry_holds s d m k v h among held ]
 
-  joined_holds : (d : Domain) (m : List (Elem × Value)) (k : Elem) (v : Value) → EntriesHold d m → Among k → Holds Among d v → EntriesHold d (joined_in d m k v)
-  joined_holds d m k v h among held =
-      elim (is_least d v) as (λ b. EntriesHold d (cond b m (insert_entry elem_cmp m k (joined_to (joined_of d) (value_at m k) v)))) [
+  joined_holds : (s : Sort) (d : Domain) (m : List (Elem × Value)) (k : Elem) (v : Value) → EntriesHold s d m → Among s k → Holds Among d v → EntriesHold s d (joined_in d m k v)
+  joined_holds s d m k v h among held =
+      elim (is_least d v) as (λ b. EntriesHold s d (cond b m (insert_entry elem_cmp m k (joined_to (joined_of d) (value_at m k) v)))) [
         | true ↦ h
-        | false ↦ entry_holds d m k (joined_to (joined_of d) (value_at m k) v) h among (to_there (Holds Among d) (joined_of d) (λ x y. join_holds d x y) (value_at m k) v (held_at (Holds Among d) m k h.1) held)
+        | false ↦ entry_holds s d m k (joined_to (joined_of d) (value_at m k) v) h among (to_there (Holds Among d) (joined_of d) (λ x y. join_holds d x y) (value_at m k) v (held_at (Holds Among d) m k h.1) held)
       ]
 
-  pub map_of_holds : (d : Domain) (ks : List Elem) (vs : List Value) (m : List (Elem × Value)) → EntriesHold d m → All Among ks → All (Holds Among d) vs → EntriesHold d (map_of d m (key_values ks vs))
-  map_of_holds d [] vs m h hk hv = h
-  map_of_holds d (k ∷ ks) [] m h hk hv = h
-  map_of_holds d (k ∷ ks) (v ∷ vs) m h hk hv =
-      map_of_holds d ks vs (joined_in d m k v) (joined_holds d m k v h (All-head Among k ks hk) (All-head (Holds Among d) v vs hv)) (All-tail Among k ks hk) (All-tail (Holds Among d) v vs hv)
+  pub map_of_holds : (s : Sort) (d : Domain) (ks : List Elem) (vs : List Value) (m : List (Elem × Value)) → EntriesHold s d m → All (Among s) ks → All (Holds Among d) vs → EntriesHold s d (map_of d m (key_values ks vs))
+  map_of_holds s d [] vs m h hk hv = h
+  map_of_holds s d (k ∷ ks) [] m h hk hv = h
+  map_of_holds s d (k ∷ ks) (v ∷ vs) m h hk hv =
+      map_of_holds s d ks vs (joined_in d m k v) (joined_holds s d m k v h (All-head (Among s) k ks hk) (All-head (Holds Among d) v vs hv)) (All-tail (Among s) k ks hk) (All-tail (Holds Among d) v vs hv)
 
-  pub nothing_holds : (d : Domain) → EntriesHold d []
-  nothing_holds d = (All-nil Among, All-nil (Holds Among d))
+  pub nothing_holds : (s : Sort) (d : Domain) → EntriesHold s d []
+  nothing_holds s d = (All-nil (Among s), All-nil (Holds Among d))
 
   -- PAIRS
 
-  module _ (pairs : (a b : Elem) → Among (elem.Pair a b) ↔ (Among a × Among b)) where
-    parts_layer : (s t : Sort) (x : Elem-F Elem) → form_has_sort (pair_sort s t) x ≡ true → Among (roll-Elem x) → Among (first_part x) × Among (second_part x)
-    parts_layer s t (Elem-F.Pair a b) sorted h = (pairs a b).0 (subst Among (elem.rolls-Pair a b) h)
+  module _ (pairs : (s t : Sort) (a b : Elem) → Among (pair_sort s t) (elem.Pair a b) ↔ (Among s a × Among t b)) where
+    parts_layer : (s t : Sort) (x : Elem-F Elem) → form_has_sort (pair_sort s t) x ≡ true → Among (pair_sort s t) (roll-Elem x) → Among s (first_part x) × Among t (second_part x)
+    parts_layer s t (Elem-F.Pair a b) sorted h = (pairs s t a b).0 (subst (Among (pair_sort s t)) (elem.rolls-Pair a b) h)
     parts_layer s t _ sorted h = absurd (true≢false (sym sorted))
 
-    pair_parts : (s t : Sort) (e : Elem) → IsOfSort (pair_sort s t) e → Among e → Among (first_part (out-Elem e)) × Among (second_part (out-Elem e))
-    pair_parts s t e sorted h = parts_layer s t (out-Elem e) sorted (subst Among (sym (roll-out-Elem e)) h)
+    pair_parts : (s t : Sort) (e : Elem) → IsOfSort (pair_sort s t) e → Among (pair_sort s t) e → Among s (first_part (out-Elem e)) × Among t (second_part (out-Elem e))
+    pair_parts s t e sorted h = parts_layer s t (out-Elem e) sorted (subst (Among (pair_sort s t)) (sym (roll-out-Elem e)) h)
 
     pub first_holds : (own r : Range) → IsFirst own r → (m : Meaning) → IsIn r m → MeaningHolds Among r m → MeaningHolds Among own (first_of m)
     first_holds _ _ (of_values l r) (a_value v) valid h = h.0
@@ -237,6 +237,6 @@ module _ (Among : Elem → Type 0) where
     both_hold _ _ _ (of_values l r) (a_value v) (a_value w) hv hw h k = pair_holds l r v w h k
     both_hold _ _ _ (of_values l r) (a_value v) _ hv hw h k = absurd hw
     both_hold _ _ _ (of_values l r) _ n hv hw h k = absurd hv
-    both_hold _ _ _ (of_elements s t) (an_element a) (an_element b) hv hw h k = (pairs a b).1 (h, k)
+    both_hold _ _ _ (of_elements s t) (an_element a) (an_element b) hv hw h k = (pairs s t a b).1 (h, k)
     both_hold _ _ _ (of_elements s t) (an_element a) _ hv hw h k = absurd hw
     both_hold _ _ _ (of_elements s t) _ n hv hw h k = absurd hv

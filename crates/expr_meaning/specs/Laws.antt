@@ -7,7 +7,7 @@ use Rattle.flow_syntax.specs.declared.spec.Spec.{Spec}
 use Rattle.flow_syntax.specs.declared.tables.FunctionDecl.{FunctionDecl}
 use Rattle.flow_syntax.specs.Expressions.{expressions_of}
 use Rattle.flow_syntax.specs.Inferred.{function_named}
-use Rattle.flow_syntax.specs.Types.{Typing}
+use Rattle.flow_syntax.specs.Types.{Sort, Typing}
 use Rattle.expr_meaning.specs.Ranges.{Range, domain_in}
 use Rattle.value_domains.specs.Lawful.{IsLawful}
 use Rattle.expr_meaning.specs.Functions.{IsMonotone, GivesElements}
@@ -34,12 +34,12 @@ abbrev pub ModesAreRight : Type 0
 ModesAreRight = (spec : Spec) (usable : Usable) (range : Expr → Range) → HasTables spec range → (vs : List Variable) (e : Expr) → AreTyped spec usable range (held vs e ∷ [])
     → FollowsBy usable (Suits usable vs) (range e) (meaning spec range e) (mode_of range e)
 
--- what a typed expression means holds only elements that bindings, reads and the specification give: those of any collection that has them, where the
--- expression is one of a list that has the parts of each
+-- what a typed expression means holds only elements that bindings, reads and the specification give: those of any collections, one a sort, that have
+-- them, where the expression is one of a list that has the parts of each
 abbrev pub NoOthersAreMade : Type 0
-NoOthersAreMade = (spec : Spec) (usable : Usable) (range : Expr → Range) → HasTables spec range → (among : Elem → Bool) (given : List Expr) → HasParts given → HasMade (λ x. IsTrue (among x)) spec given
-    → (vs : List Variable) (e : Expr) → AreTyped spec usable range (held vs e ∷ []) → Contains given e → (at : Situation) → Suits usable vs at → SituationHolds (λ x. IsTrue (among x)) usable at
-    → MeaningHolds (λ x. IsTrue (among x)) (range e) (meaning spec range e at)
+NoOthersAreMade = (spec : Spec) (usable : Usable) (range : Expr → Range) → HasTables spec range → (among : Sort → Elem → Bool) (given : List Expr) → HasParts given → HasMade (λ s x. IsTrue (among s x)) spec given
+    → (vs : List Variable) (e : Expr) → AreTyped spec usable range (held vs e ∷ []) → Contains given e → (at : Situation) → Suits usable vs at → SituationHolds (λ s x. IsTrue (among s x)) usable vs at
+    → MeaningHolds (λ s x. IsTrue (among s x)) (range e) (meaning spec range e at)
 
 -- where no expression stands twice, the ranges of a specification's expressions are those of their types
 abbrev pub RangesAgree : Type 0

@@ -25,17 +25,6 @@ pub record IsLower (usable : Usable) (low high : Situation) : Type 0 where
   pub bindings : low.bindings ≡ high.bindings
   pub reads : (p : ℕ) (side : Side) → IsTrue (usable.has p side) → IsBelowIn (usable.domain p) (low.reads p side) (high.reads p side)
 
--- greater reads give a greater meaning, a lower one, or the same, in all situations that are possible
-module _ (usable : Usable) (IsPossible : Situation → Type 0) (range : Range) (sense : Sense) where
-  abbrev pub IsIncreasing : Type 0
-  IsIncreasing = (low high : Situation) → IsPossible low → IsPossible high → IsLower usable low high → IsBelowAs range (sense low) (sense high)
-
-  abbrev pub IsDecreasing : Type 0
-  IsDecreasing = (low high : Situation) → IsPossible low → IsPossible high → IsLower usable low high → IsBelowAs range (sense high) (sense low)
-
-  abbrev pub IsFixed : Type 0
-  IsFixed = (low high : Situation) → IsPossible low → IsPossible high → IsLower usable low high → sense low ≡ sense high
-
-  -- what its mode says of an expression
-  abbrev pub FollowsBy : Mode → Type 0
-  FollowsBy m = (low high : Situation) → IsPossible low → IsPossible high → IsLower usable low high → Moves m (IsBelowAs range) (sense low) (sense high)
+-- what its mode says of an expression: that greater reads give a greater meaning, a lower one, or the same, in all situations that are possible
+abbrev pub FollowsBy : Usable → (Situation → Type 0) → Range → Sense → Mode → Type 0
+FollowsBy usable IsPossible range sense m = (low high : Situation) → IsPossible low → IsPossible high → IsLower usable low high → Moves m (IsBelowAs range) (sense low) (sense high)

@@ -172,10 +172,3 @@ module _ (e : Expr) (ts : List ExprType) where
 
 pub no_condition : (c : Option Expr) (ts : List ExprType) → c ≡ None → IfWalked c ts mode.Fixed ts
 no_condition c ts is = subst (λ (o : Option Expr). IfWalked o ts mode.Fixed ts) (sym is) (λ declared range agree. (refl, refl))
-
-pub one_condition : (c : Option Expr) (a b : Expr) (ts rest : List ExprType) (m : Mode) → c ≡ Some a → b ≡ a → IsWalked b ts m rest → IfWalked c ts m rest
-one_condition c a b ts rest m is same walked =
-    subst (λ (o : Option Expr). IfWalked o ts m rest) (ap Some same ∙ sym is)
-    (λ declared range agree.
-    let found = walked declared range (agree_split declared range (preorder b) [] ts agree).0 in
-    (combined_fixed (mode_of range b) ∙ found.0, behind_both (preorder b) [] ts ∙ found.1))

@@ -27,9 +27,6 @@ abbrev pub IsLeft : List PropRule → List ExprType → List PropRule → List E
 IsLeft rules types left rest = (declared : List TableDecl) (range : Expr → Range) → AgreeWith declared range (bodies_in rules) types
     → AgreeWith declared range (bodies_in left) rest × (first_fault_by range rules ≡ first_fault_by range left)
 
-pub nothing_passed : (rules : List PropRule) (types : List ExprType) → IsLeft rules types rules types
-nothing_passed rules types declared range agree = (agree, refl)
-
 -- the rules from one on
 pub left_at : (rules : List PropRule) (i : ℕ) (rule : PropRule) → i < length rules → rule ≡ get_or rules i rule → drop i rules ≡ rule ∷ drop (i + 1) rules
 left_at rules i rule within is =
@@ -53,9 +50,6 @@ module _ (rules : List PropRule) (types : List ExprType) (rule : PropRule) (left
       let found = walked declared range (agree_split declared range (preorder rule.body) (bodies_in left) rest now.0).0 in
       sym (now.1 ∙ ap (λ b. option_map (body_fault range) (cond b (Some rule) (find (λ rule. is_refused (mode_of range rule.body)) left))) (ap is_refused found.0 ∙ bad)
       ∙ ap (λ x. Some (record { place = (out-Expr rule.body).place; mode = x })) found.0 ∙ ap Some (sym is))
-
-pub all_passed : (rules : List PropRule) (types rest : List ExprType) → IsLeft rules types [] rest → (declared : List TableDecl) (range : Expr → Range) → AgreeWith declared range (bodies_in rules) types → None ≡ first_fault_by range rules
-all_passed rules types rest before declared range agree = sym (before declared range agree).1
 
 -- THE SPECIFICATION
 

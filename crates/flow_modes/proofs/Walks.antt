@@ -4,7 +4,6 @@ use Rattle.std.specs.List.{flat_map}
 use Rattle.std.proofs.lemmas.List.{append_assoc, map-append, take_all, take_more}
 use Rattle.flow_syntax.specs.declared.expr.Expr.{Expr}
 use Rattle.flow_syntax.specs.declared.property.Mode.{Mode}
-use Rattle.flow_syntax.specs.declared.property.Mode.TheVariants as mode
 use Rattle.flow_syntax.specs.declared.tables.TableDecl.{TableDecl}
 use Rattle.flow_syntax.specs.declared.types.ExprType.{ExprType}
 use Rattle.flow_syntax.specs.Expressions.{ExprLayer, expr_layer, parts_in, parts_of, preorder}
@@ -46,9 +45,6 @@ more_walked e es ts rest end m ms one others declared range h =
     let first = one declared range split.0 in
     let then = others declared range (subst (AgreeWith declared range (flat_map preorder es)) first.1 split.1) in
     ((λ i. first.0 i ∷ then.0 i), behind_both (preorder e) (flat_map preorder es) ts ∙ ap (behind (flat_map preorder es)) first.1 ∙ then.1)
-
-pub none_combined : (ts : List ExprType) → AllWalked [] ts mode.Fixed ts
-none_combined ts declared range h = (refl, refl)
 
 pub one_behind : (es : List Expr) (e : Expr) (ts rest end : List ExprType) (m n : Mode) → AllWalked es ts m rest → IsWalked e rest n end → AllWalked (es ++ e ∷ []) ts (combined m n) end
 one_behind es e ts rest end m n all one declared range h =

@@ -53,7 +53,7 @@ module _ (spec : Spec) (types : List Typing) (typed : IsTypedBy spec types) wher
   told_body (Some p) t e = cc
   told_body None t e = cc
 
-  body_in : (rule : PropRule) → Contains spec.rules rule → ranges_of spec types rule.body ≡ values (rule_domain spec rule)
+  pub body_in : (rule : PropRule) → Contains spec.rules rule → ranges_of spec types rule.body ≡ values (rule_domain spec rule)
   body_in rule among =
       property_right spec (ranges_of spec types) (can_read_in spec (trigger_scope rule.trigger)) (ranges_of spec types rule.body) rule.property.text (property_named spec rule.property.text) refl
       (λ e. typed.faultless _ _ (declaration (unknown rule.property (property rule among e) refl)))

@@ -70,9 +70,9 @@ ExpressionsAreGood = (spec : Spec) (types : List Typing) → IsTypedBy spec type
 abbrev pub ExpressionsStand : Type 0
 ExpressionsStand = (spec : Spec) (types : List Typing) → IsTypedBy spec types → (e : Expr) → Contains (expressions_of spec) e → (q : Occurrence) × IsOccurrenceIn spec q × (q.expr ≡ e)
 
--- What an expression means holds only elements that bindings and reads hold, texts of the specification, items of enums, and integers: those of any collection
--- that has them.
+-- What an expression means holds only elements that bindings and reads hold, texts of the specification, items of enums, and integers: those of any
+-- collections, one a sort, that have them.
 abbrev pub ExpressionsMakeNoOthers : Type 0
-ExpressionsMakeNoOthers = (spec : Spec) (types : List Typing) → IsTypedBy spec types → HasLawfulTables spec → (among : Elem → Bool) → HasMade (λ x. IsTrue (among x)) spec (expressions_of spec)
-    → (q : Occurrence) → IsOccurrenceIn spec q → (at : Situation) → CanEvaluate spec q at → SituationHolds (λ x. IsTrue (among x)) (used_by spec q.expr) at
-    → MeaningHolds (λ x. IsTrue (among x)) (ranges_of spec types q.expr) (sense_of spec types q.expr at)
+ExpressionsMakeNoOthers = (spec : Spec) (types : List Typing) → IsTypedBy spec types → HasLawfulTables spec → (among : Sort → Elem → Bool) → HasMade (λ s x. IsTrue (among s x)) spec (expressions_of spec)
+    → (q : Occurrence) → IsOccurrenceIn spec q → (at : Situation) → CanEvaluate spec q at → SituationHolds (λ s x. IsTrue (among s x)) (used_by spec q.expr) (variables_at q.scope) at
+    → MeaningHolds (λ s x. IsTrue (among s x)) (ranges_of spec types q.expr) (sense_of spec types q.expr at)

@@ -1,0 +1,15 @@
+pub mod Applied
+pub mod Bindings
+pub mod Ends
+pub mod Exact
+pub mod Facts
+pub mod Given
+pub mod Kept
+pub mod Lists
+pub mod Members
+pub mod Monotone
+pub mod Numbers
+pub mod Paths
+pub mod Situations
+pub mod Solved
+pub mod Sorted

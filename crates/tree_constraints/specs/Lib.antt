@@ -1,0 +1,5 @@
+pub mod Constraints
+pub mod Elements
+pub mod Laws
+pub mod Orders
+pub mod Solutions

@@ -1,0 +1,4 @@
+pub mod Heights
+pub mod Laws
+pub mod Ranked
+pub mod Tests
