@@ -113,6 +113,9 @@ module _ {K U V : Type 0} (same : Equality K U) (tells : IsEquality same) (s t :
       pub value_kept : (u : U) → unknown_stays same s t e u ≡ true → taint u ≡ false → replay same t (filter (λ k. not (taint (s.target k))) steps) u ≡ e.shift (replay same s steps u)
       value_kept u h clean = related.shifted u h clean
 
+      pub value_movable : (u : U) → unknown_stays same s t e u ≡ true → taint u ≡ false → Movable e (replay same s steps u)
+      value_movable u h clean = related.movable u h clean
+
       pub value_reset : (u : U) → taint u ≡ true → replay same t (filter (λ k. not (taint (s.target k))) steps) u ≡ t.bottom u
       value_reset u tainted = related.least u (inr tainted)
 

@@ -1,4 +1,12 @@
 pub mod BeginLemmas
+pub mod ForgetLemmas
+pub mod LoopLemmas
+pub mod OrderLemmas
+pub mod PermutationLemmas
+pub mod PlanLemmas
+pub mod RepairLemmas
 pub mod ReplayLemmas
+pub mod RetractLemmas
 pub mod RunLemmas
+pub mod TaintLemmas
 pub mod TurnLemmas

@@ -64,10 +64,6 @@ module _ {V : Type 0} (s : ConstraintSystem ℕ ℕ V) (law : IsLawful numbers s
   early_no_memory (Ok u) old new b e limit is run = absurd is
   early_no_memory (Err refusal) old new b e limit is run = rw is run
 
-  pub refused_no_memory : (r : Result (Unit {0}) SettleRefusal) (old new : State ℕ) (b e : ℕ) → IsErrAnd r (λ refusal. refusal ≡ NoMemory) → RefusedRun s old new b e → IfErr r (IsRefused s old new b e)
-  refused_no_memory (Ok u) old new b e is run = absurd is
-  refused_no_memory (Err refusal) old new b e is run = rw is run
-
   pub settled_bounded : (old new : State ℕ) (b e : ℕ) → IsSound numbers s old → IsSettled s old new b e → e ≤ b + bound numbers s
   settled_bounded old new b e sound settled = omega (arith, run_bounded settled.1.0 old new sound settled.1.1, settled.1.2)
 

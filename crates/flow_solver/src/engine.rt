@@ -1,15 +1,19 @@
 //! The engine.
-ghost use Rattle.std.specs.Prelude.{◌≡◌, ◌<◌, ◌≤◌, ◌+◌, [], ℕ, Bool, List, length, slice_index, false, IfOk, OnOk, OnErr, Some, None, Err};
+ghost use Rattle.std.specs.Prelude.{◌≡◌, ◌<◌, ◌≤◌, ◌+◌, [], ℕ, Bool, List, length, slice_index, false, true, IfOk, OnOk, OnErr, Some, None, Err};
 ghost use Rattle.std.specs.Option.{option_copied};
 ghost use Rattle.list_theory.specs.Lists.{has};
 ghost use Rattle.constraint_theory.specs.Systems.{IsLeast, IsMonotone, IsUnknown, bound, numbers, with_test};
+ghost use Rattle.constraint_theory.specs.Edits.{AreEditedValues, IsReach, IsRegion, IsTainted, edit_bound, unknown_stays};
 ghost use Rattle.constraint_theory.specs.Machine.{IsClosed, IsSound, Legal, begin, bound_within, replay, visited};
 ghost use Rattle.flow_solver.specs.Engines.{trace_of};
+ghost use Rattle.flow_solver.specs.Plans.{IsEdited, IsReady};
 ghost use Rattle.flow_solver.specs.Runs.{IsAsBefore, IsSettled, IsSpent, IsVisit, RefusedRun, visits_of};
 
 use crate::answers::{SettleRefusal, Visited};
 use crate::pick::Pick;
+use crate::plan::Plan;
 use crate::progress::Progress;
+use crate::retract::{reserve, retract};
 use crate::settle::settle;
 use crate::system::System;
 use crate::turn::{number_above, push_each, turn};
@@ -29,15 +33,23 @@ pub struct Engine<S: System, P: Pick> {
     progress: Progress<S>,
     pick: P,
     waiting: WorkQueue,
+    plan: Plan<<S::L as Lattice>::V>,
     alloc: Global,
 }
 
 impl<S: System, P: Pick> Model for Engine<S, P> {
     ghost use Rattle.flow_solver.specs.Engines.{IsEngine, Solving, state_of};
+    ghost use Rattle.flow_solver.specs.Plans.{plan_of, room_of};
 
-    ghost Value = { Solving S P };
+    ghost Value = { Solving S P S.L.V };
 
-    ghost view = { λ e. record { system = e.progress.system; pick = e.pick; state = state_of e.progress.steps e.waiting } };
+    ghost view = { λ e. record {
+      system = e.progress.system;
+      pick = e.pick;
+      state = state_of e.progress.steps e.waiting;
+      plan = plan_of e.plan.tainted e.plan.renewed e.plan.bottoms.items;
+      room = room_of e.progress.keys e.waiting.allowed e.progress.unknowns;
+    } };
 
     ghost invariant = { λ e. IsEngine (S.meaning e.progress.system) e.progress.steps e.waiting };
 }
@@ -58,6 +70,7 @@ impl<S: System, P: Pick> Engine<S, P> {
             progress: Progress::new(alloc, system)?,
             pick,
             waiting,
+            plan: Plan::none(alloc),
             alloc,
         })
     }
@@ -122,6 +135,67 @@ impl<S: System, P: Pick> Engine<S, P> {
             limit,
             steps,
         )
+    }
+
+    /// Takes all memory for `retract` of this edit, and finds what it taints. Values, steps and queue stay, also where memory
+    /// runs out.
+    ///
+    /// A visit may change what an edit taints, so what is reserved holds up to the next visit.
+    pub fn reserve(&mut self, edit: &S::Edit) -> Result<(), AllocError>
+        requires { S.is_edit self.old.system edit.now }
+        ensures meaning { S.meaning self.new.system ≡ S.meaning self.old.system }
+        ensures lattices { S.lattices self.new.system ≡ S.lattices self.old.system }
+        ensures order { S.order self.new.system ≡ S.order self.old.system }
+        ensures edits { (e : S.Edit) → S.is_edit self.old.system e → S.is_edit self.new.system e }
+        ensures next { S.next self.new.system ≡ S.next self.old.system }
+        ensures pick { self.new.pick ≡ self.old.pick }
+        ensures state { self.new.state ≡ self.old.state }
+        ensures reserved { OnOk result (S.is_reserved self.new.system edit.now) }
+        ensures ready { OnOk result (IsReady (S.meaning self.new.system) (S.next self.new.system edit.now) (S.change edit.now)
+            self.new.state.steps self.new.plan self.new.room) }
+    {
+        reserve(
+            self.alloc,
+            &mut self.progress,
+            &mut self.waiting,
+            &mut self.plan,
+            edit,
+        )
+    }
+
+    /// Makes the machine's edit, in memory that is reserved for it.
+    ///
+    /// The tainted unknowns are the least set that holds the target of each gone constraint that is among the steps and,
+    /// with an unknown, the target of each step whose constraint reads it. Their steps are taken out, and they begin anew at
+    /// bottom, as added unknowns do; gone unknowns have no value; each other value is renamed. Gone constraints stop waiting;
+    /// then those that are added or aim at a tainted unknown wait, in the order of keys, at the end.
+    ///
+    /// Where no gone constraint is among the steps, no step is taken out, and each value that stays is renamed. Where nothing
+    /// waited before, no legal list of visits from here on is longer than the edit's bound.
+    ///
+    /// It takes time in the number of tainted unknowns, of their steps, of the constraints that aim at them, and of what is
+    /// gone and added, beside `commit` and the order of the renewed keys; and in the number of unknowns where the edit renames.
+    pub fn retract(&mut self, edit: S::Edit)
+        requires edit { S.is_edit self.old.system edit }
+        requires reserved { S.is_reserved self.old.system edit }
+        requires ready { IsReady (S.meaning self.old.system) (S.next self.old.system edit) (S.change edit)
+            self.old.state.steps self.old.plan self.old.room }
+        ensures meaning { S.meaning self.new.system ≡ S.next self.old.system edit }
+        ensures pick { self.new.pick ≡ self.old.pick }
+        ensures edited { IsEdited (S.meaning self.old.system) (S.next self.old.system edit) (S.change edit) self.old.state self.new.state }
+        ensures values { let s = S.meaning self.old.system in let t = S.meaning self.new.system in let e = S.change edit in
+            (taint : ℕ → Bool) → IsTainted numbers s t e self.old.state.steps taint
+            → AreEditedValues numbers s t e taint (replay numbers s self.old.state.steps) (replay numbers t self.new.state.steps) }
+        ensures idle { let s = S.meaning self.old.system in let t = S.meaning self.new.system in let e = S.change edit in
+            ((k : ℕ) → has numbers.key self.old.state.steps k ≡ true → has numbers.key e.gone k ≡ false)
+            → (self.new.state.steps ≡ self.old.state.steps) × ((u : ℕ) → unknown_stays numbers s t e u ≡ true
+            → replay numbers t self.new.state.steps u ≡ e.shift (replay numbers s self.old.state.steps u)) }
+        ensures bounded { let s = S.meaning self.old.system in let t = S.meaning self.new.system in let e = S.change edit in
+            (region reach : ℕ → Bool) (ks : List ℕ) → self.old.state.waiting ≡ [] → IsRegion numbers s t e region → IsReach numbers s t e region reach
+            → Legal numbers t self.new.state ks → length ks ≤ edit_bound numbers s t e region reach }
+        ensures sound { IsSound numbers (S.meaning self.new.system) self.new.state }
+    {
+        retract(&mut self.progress, &mut self.waiting, &mut self.plan, edit);
     }
 
     /// The unknown's value. There is none exactly where there is no such unknown.

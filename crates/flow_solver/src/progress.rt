@@ -1,14 +1,18 @@
 //! The values of a system so far, and the steps that led to them.
-ghost use Rattle.std.specs.Prelude.{◌≡◌, ◌+◌, ◌++◌, ◌∷◌, [], ℕ, true, false, cond, if◌then◌else◌, not, IfNone, IfOk, IfSome, OnErr, None, Some};
+ghost use Rattle.std.specs.Prelude.{◌≡◌, ◌+◌, ◌<◌, ◌++◌, ◌∷◌, [], ℕ, length, true, false, cond, filter, if◌then◌else◌, not, IfNone, IfOk, IfSome, OnErr, OnOk, None, Some, slice_index_or};
 ghost use Rattle.std.specs.Option.{option_copied};
 ghost use Rattle.list_theory.specs.Lists.{has};
 ghost use Rattle.constraint_theory.specs.Systems.{Fits, IsKey, IsUnknown, holds, numbers, readers};
 ghost use Rattle.constraint_theory.specs.Machine.{joined, replay};
-ghost use Rattle.flow_solver.specs.Engines.{AreReplayed, Replayed, trace_of};
+ghost use Rattle.constraint_theory.specs.Edits.{IsTainted};
+ghost use Rattle.flow_solver.specs.Engines.{AreReplayed, Replayed, keys_of, trace_of};
+ghost use Rattle.flow_solver.specs.Plans.{AreBottoms};
 
+use crate::numbers::{is_marked, reach_mark, reach_marks, unmark_each};
 use crate::order;
 use crate::system::System;
-use crate::values::Values;
+use crate::turn::number_above;
+use crate::values::{Values, clear_each, put_each, reach_each, shift_each};
 use flow_term::List;
 use index_lists::TraceList;
 use lattice_base::{Lattice, Steps};
@@ -37,28 +41,35 @@ pub(crate) struct Progress<S: System> {
     system: S,
     values: Values<<S::L as Lattice>::V>,
     trace: TraceList,
+    /// For each key whether it is among the steps.
+    made: Vec<bool>,
 }
 
 impl<S: System> Model for Progress<S> {
-    ghost use Rattle.flow_solver.specs.Engines.{AreReplayed, Replayed, keys_of};
+    ghost use Rattle.std.specs.Prelude.{length};
+    ghost use Rattle.flow_solver.specs.Engines.{IsProgress, Replayed, keys_of};
 
     ghost Value = { Replayed S };
 
-    ghost view = { λ p. record { system = p.system; steps = keys_of p.trace } };
+    ghost view = { λ p. record { system = p.system; steps = keys_of p.trace; keys = length p.made.items; unknowns = length p.values } };
 
-    ghost invariant = { λ p. AreReplayed (S.meaning p.system) p.values p.trace };
+    ghost invariant = { λ p. IsProgress (S.meaning p.system) p.values p.trace p.made.items };
 }
 
 impl<S: System> Progress<S> {
     /// No steps, and all values are least.
     pub(crate) fn new(alloc: Global, system: S) -> Result<Progress<S>, AllocError>
-        ensures { IfOk result (λ p. p ≡ record { system = system; steps = [] }) }
+        ensures system { IfOk result (λ p. p.system ≡ system) }
+        ensures steps { IfOk result (λ p. p.steps ≡ []) }
     {
         let values = least_values(alloc, &system)?;
+        let mut made = Vec::new(alloc);
+        reach_mark(&mut made, number_above(system.keys().as_slice())?)?;
         Ok(Progress {
             system,
             values,
             trace: TraceList::new(alloc),
+            made,
         })
     }
 
@@ -154,6 +165,7 @@ impl<S: System> Progress<S> {
             Some(value) => {
                 let target = self.system.target(key);
                 self.trace.push(target, key)?;
+                self.made[key] = true;
                 self.values.set(target, value);
                 Ok(true)
             }
@@ -167,5 +179,82 @@ impl<S: System> Progress<S> {
         ensures { result.now ≡ readers numbers (S.meaning self.now.system) ((S.meaning self.now.system).target key) }
     {
         self.system.readers(self.system.target(key))
+    }
+
+    /// Whether the key is among the steps.
+    pub(crate) fn has_step(&self, key: usize) -> bool
+        ensures { result ≡ has numbers.key self.now.steps key }
+    {
+        is_marked(&self.made, key)
+    }
+
+    /// Takes the memory that an edit needs. Nothing else changes.
+    pub(crate) fn reserve(&mut self, edit: &S::Edit) -> Result<(), AllocError>
+        requires { S.is_edit self.old.system edit.now }
+        ensures steps { self.new.steps ≡ self.old.steps }
+        ensures meaning { S.meaning self.new.system ≡ S.meaning self.old.system }
+        ensures lattices { S.lattices self.new.system ≡ S.lattices self.old.system }
+        ensures order { S.order self.new.system ≡ S.order self.old.system }
+        ensures edits { (e : S.Edit) → S.is_edit self.old.system e → S.is_edit self.new.system e }
+        ensures next { S.next self.new.system ≡ S.next self.old.system }
+        ensures reserved { OnOk result (S.is_reserved self.new.system edit.now) }
+        ensures keys { OnOk result ((k : ℕ) → has numbers.key (S.change edit.now).added k ≡ true → k < self.new.keys) }
+        ensures unknowns { OnOk result ((u : ℕ) → has numbers.unknown (S.change edit.now).added_unknowns u ≡ true → u < self.new.unknowns) }
+    {
+        self.system.reserve(edit)?;
+        reach_marks(&mut self.made, self.system.added(edit).as_slice())?;
+        reach_each(
+            &mut self.values,
+            self.system.added_unknowns(edit).as_slice(),
+        )
+    }
+
+    /// Makes the edit: takes out the steps of the tainted unknowns, renames the values of the others, and gives the
+    /// bottoms to the unknowns beside them.
+    pub(crate) fn retract(
+        &mut self,
+        edit: S::Edit,
+        tainted: &[usize],
+        bottoms: &mut Vec<(usize, <S::L as Lattice>::V)>,
+    )
+        requires edit { S.is_edit self.old.system edit }
+        requires reserved { S.is_reserved self.old.system edit }
+        requires tainted { IsTainted numbers (S.meaning self.old.system) (S.next self.old.system edit) (S.change edit) self.old.steps (has numbers.unknown tainted.now) }
+        requires bottoms { AreBottoms (S.meaning self.old.system) (S.next self.old.system edit) (S.change edit) (has numbers.unknown tainted.now) bottoms.old.items }
+        requires keys { (k : ℕ) → has numbers.key (S.change edit).added k ≡ true → k < self.old.keys }
+        requires unknowns { (u : ℕ) → has numbers.unknown (S.change edit).added_unknowns u ≡ true → u < self.old.unknowns }
+        ensures meaning { S.meaning self.new.system ≡ S.next self.old.system edit }
+        ensures steps { self.new.steps ≡ filter (λ k. not (has numbers.unknown tainted.now ((S.meaning self.old.system).target k))) self.old.steps }
+    {
+        forget_steps(&self.system, &mut self.trace, &mut self.made, tainted);
+        clear_each(
+            &mut self.values,
+            self.system.gone_unknowns(&edit).as_slice(),
+        );
+        clear_each(&mut self.values, tainted);
+        shift_each(&self.system, &edit, &mut self.values);
+        put_each(&mut self.values, bottoms);
+        self.system.commit(edit);
+    }
+}
+
+/// Takes out the steps of each of the unknowns.
+fn forget_steps<S: System>(
+    system: &S,
+    trace: &mut TraceList,
+    made: &mut Vec<bool>,
+    unknowns: &[usize],
+)
+    requires used { (u : ℕ) → has numbers.unknown unknowns.now u ≡ true → IsUnknown numbers (S.meaning system.now) u }
+    requires known { (k : ℕ) → has numbers.key (keys_of trace.old) k ≡ true → IsKey numbers (S.meaning system.now) k }
+    requires paired { trace.old ≡ trace_of (S.meaning system.now) (keys_of trace.old) }
+    requires marked { (k : ℕ) → slice_index_or made.old.items k false ≡ has numbers.key (keys_of trace.old) k }
+    ensures trace { trace.new ≡ filter (λ step. not (has numbers.unknown unknowns.now step.0)) trace.old }
+    ensures marked { (k : ℕ) → slice_index_or made.new.items k false ≡ has numbers.key (keys_of trace.new) k }
+    ensures len { length made.new.items ≡ length made.old.items }
+{
+    for unknown in unknowns {
+        trace.remove_target(*unknown);
+        unmark_each(made, system.aiming(*unknown).as_slice());
     }
 }

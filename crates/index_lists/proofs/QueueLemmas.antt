@@ -1,13 +1,12 @@
 -- What an item that is put in or taken out does to a queue and its marks.
-use Rattle.std.proofs.Common.{◌≡◌, ◌≢◌, zero, suc, ℕ, ◌+◌, ◌-◌, ◌<◌, ◌≤◌, Bool, true, false, cond, not, ◌||◌, List, [], ◌∷◌, ◌++◌, length, refl, sym, ap, ◌∙◌, arith, inl, inr, length-append}
+use Rattle.std.proofs.Common.{◌≡◌, ◌≢◌, ℕ, ◌+◌, ◌-◌, ◌<◌, ◌≤◌, Bool, true, false, cond, not, ◌||◌, List, [], ◌∷◌, ◌++◌, length, refl, sym, ap, ◌∙◌, arith, inl, inr, length-append}
 use Rattle.std.specs.Prelude.{nat_eq, slice_index_or, slice_set}
-use Rattle.std.specs.List.{AllClonesOf}
-use Rattle.std.proofs.lemmas.List.{get_or-set_same, get_or-set_other, get_or_past, get_or-append_right, get_or_append_left, length-set}
+use Rattle.std.proofs.lemmas.List.{get_or-set_same, get_or-set_other, get_or_past, length-set}
 use Rattle.std.proofs.lemmas.Bool.{both_ways, cases_Bool, cases_lt, cases_eq, eq-eqb, eqb-true, ne_eqb, true≢false, not_from_false, false_from_ne_true}
 use Rattle.list_theory.specs.Lists.{has, without, distinct}
 use Rattle.list_theory.proofs.ListLemmas.{distinct_parts, has-append_one, has-filter_from, has-without, distinct-append_one, distinct-without, without_absent}
 use Rattle.list_theory.proofs.NumberLemmas.{numbers_exact, length_distinct_below}
-use Rattle.linked_lists.specs.Chains.{Lists, list_in, with_list}
+use Rattle.linked_lists.specs.Chains.{Lists, with_list}
 use Rattle.index_lists.specs.Records.{all_in}
 use Rattle.index_lists.specs.Queues.{IsQueue}
 use Rattle.index_lists.proofs.RecordLemmas.{list_in_same, there_is}
@@ -29,14 +28,6 @@ or_false false = refl
 -- there are no more items than are allowed
 pub few_items : (chain : Lists) (marks : List Bool) (len : ℕ) → IsQueue chain marks len → length (all_in chain) ≤ length marks
 few_items chain marks len q = length_distinct_below (all_in chain) (length marks) q.no_repeats (λ x w. all_allowed chain marks len x q w)
-
--- an item that isn't there is in no list
-pub absent_all : (chain : Lists) (marks : List Bool) (len x k : ℕ) → IsQueue chain marks len → has nat_eq (all_in chain) x ≡ false → has nat_eq (list_in chain k) x ≡ false
-absent_all chain marks len x k q h =
-    elim (cases_eq k 0) [
-      | inl same ↦ rw same h
-      | inr other ↦ let few = q.one in ap (λ xs. has nat_eq xs x) (get_or_past chain.lists k [] (omega (arith, few, other)))
-    ]
 
 -- there is a list where an item is allowed
 pub listed_is : (chain : Lists) (marks : List Bool) (len x : ℕ) → IsQueue chain marks len → x < length marks → 0 < length chain.lists
@@ -112,36 +103,3 @@ IsQueue-without chain chain' marks len x q h e =
       listed = λ w. omega (arith, some, length-set chain.lists 0 (without nat_eq (all_in chain) x));
       one = omega (arith, one, length-set chain.lists 0 (without nat_eq (all_in chain) x));
     })
-
--- the queue with room for more
-pub IsQueue-room : (chain chain' : Lists) (marks : List Bool) (len : ℕ) → all_in chain' ≡ all_in chain → (0 < chain'.items → 0 < length chain'.lists) → length chain'.lists ≤ 1 → chain.items ≤ chain'.items → IsQueue chain marks len → IsQueue chain' marks len
-IsQueue-room chain chain' marks len all listed one more q =
-    let room = q.room in
-    record {
-      no_repeats = ap (distinct nat_eq) all ∙ q.no_repeats;
-      marked = λ x. q.marked x ∙ ap (λ xs. has nat_eq xs x) (sym all);
-      counted = q.counted ∙ ap length (sym all);
-      room = omega (arith, room, more);
-      listed = listed;
-      one = one;
-    }
-
--- marks that say no, as clones of `false`
-get_or-clones : (clones : Bool → Bool → Type 0) (ys : List Bool) (x : ℕ) → ((y : Bool) → clones false y → y ≡ false) → AllClonesOf clones false ys → slice_index_or ys x false ≡ false
-get_or-clones clones [] x equal all = get_or_past [] x false (omega arith)
-get_or-clones clones (y ∷ ys) zero equal all = elim all.0 [ inl e ↦ e | inr c ↦ equal y c ]
-get_or-clones clones (y ∷ ys) (suc x) equal all = get_or-clones clones ys x equal all.1
-
--- the queue with more marks, which say no
-pub IsQueue-grow : (clones : Bool → Bool → Type 0) (chain : Lists) (marks ys marks' : List Bool) (len : ℕ) → ((y : Bool) → clones false y → y ≡ false) → AllClonesOf clones false ys → marks' ≡ marks ++ ys → length marks' ≤ chain.items → IsQueue chain marks len → IsQueue chain marks' len
-IsQueue-grow clones chain marks ys marks' len equal all e le q = record {
-  no_repeats = q.no_repeats;
-  marked = λ x. elim (cases_lt x (length marks)) [
-    | inl lt ↦ rw e (get_or_append_left marks ys false x lt ∙ q.marked x)
-    | inr past ↦ rw e (get_or-append_right marks ys (length marks) x false refl past ∙ get_or-clones clones ys (x - length marks) equal all ∙ sym (sym (q.marked x) ∙ get_or_past marks x false past))
-  ];
-  counted = q.counted;
-  room = le;
-  listed = q.listed;
-  one = q.one;
-}

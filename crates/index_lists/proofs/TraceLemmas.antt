@@ -1,5 +1,5 @@
 -- Steps and their lists, after one is appended or taken out.
-use Rattle.std.proofs.Common.{◌≡◌, ℕ, ◌<◌, true, false, cond, not, List, [], ◌∷◌, ◌++◌, length, refl, ap, ◌∙◌}
+use Rattle.std.proofs.Common.{◌≡◌, ℕ, true, false, cond, not, List, [], ◌∷◌, refl, ap, ◌∙◌}
 use Rattle.std.specs.Prelude.{nat_eq, filter, map}
 use Rattle.std.proofs.lemmas.Bool.{both_ways, eq-eqb, ne_eqb}
 use Rattle.list_theory.specs.Lists.{distinct, has, without}
@@ -8,12 +8,7 @@ use Rattle.list_theory.proofs.NumberLemmas.{numbers_exact}
 use Rattle.linked_lists.specs.Chains.{Lists, list_in, with_list}
 use Rattle.index_lists.specs.Records.{first, has_key, numbers, pair_of, pairs, without_number}
 use Rattle.index_lists.specs.Traces.{IsTrace, aims_elsewhere}
-use Rattle.index_lists.proofs.GroupLemmas.{grouped_added, grouped_removed, map_same}
-
--- A step is appended.
-pub step_added : (es es' : List (ℕ × (ℕ × ℕ))) (lists lists' : Lists) (n : ℕ) (e : ℕ × ℕ) → IsTrace es lists → distinct nat_eq (numbers es') ≡ true → e.0 < length lists.lists
-    → es' ≡ es ++ (n, e) ∷ [] → lists' ≡ with_list lists e.0 (list_in lists e.0 ++ n ∷ []) → IsTrace es' lists'
-step_added es es' lists lists' n e t once within ee el = rw (ee, el) (record { grouped = grouped_added first es lists n e t.grouped within; once = rw ee at once })
+use Rattle.index_lists.proofs.GroupLemmas.{grouped_removed, map_same}
 
 -- A step is taken out.
 pub step_removed : (es es' : List (ℕ × (ℕ × ℕ))) (lists lists' : Lists) (n : ℕ) (e : ℕ × ℕ) → IsTrace es lists → distinct nat_eq (numbers es') ≡ true → has nat_eq (numbers es) n ≡ true → e ≡ pair_of es n

@@ -1,7 +1,7 @@
-//! Lists of numbers that a worklist solver keeps: the queue of what waits, and the trace of the steps that were made.
+//! Lists whose records are linked by numbers: the queue of what waits, the trace of the steps that were made, and the edges
+//! between numbered nodes.
 //!
-//! Contracts see each as a plain list. Both stand over plain vectors: what takes an item out of the middle takes time
-//! in the length of the list.
+//! Contracts see each as a plain list. What takes an item out goes over no other item.
 #![tactic(auto)]
 
 mod edges;

@@ -193,9 +193,6 @@ module _ {A : Type 0} (same : A → A → Bool) (ex : IsExact same) where
   pub push_one-absent : (xs : List A) (x : A) → has same xs x ≡ false → xs ++ x ∷ [] ≡ push_one same xs x
   push_one-absent xs x h = sym (ap (λ b. cond b xs (xs ++ x ∷ [])) h)
 
-  pub push_one-there : (xs : List A) (x : A) → has same xs x ≡ true → xs ≡ push_one same xs x
-  push_one-there xs x h = sym (ap (λ b. cond b xs (xs ++ x ∷ [])) h)
-
   -- pushing new items, each once, appends them
   pub push_all-append : (xs ys : List A) → distinct same xs ≡ true → ((x : A) → has same xs x ≡ true → has same ys x ≡ false) → push_all same ys xs ≡ ys ++ xs
   push_all-append [] ys d apart = sym (append-nil ys)

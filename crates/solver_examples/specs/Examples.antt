@@ -1,6 +1,7 @@
 -- Systems for the tests: sets of the numbers 0 and 1, and constraints that each read one unknown.
-use Rattle.std.specs.Prelude.{ℕ, ◌+◌, Bool, true, false, cond, not, ◌||◌, ◌&&◌, nat_eq, nat_lt, List, [], ◌∷◌}
+use Rattle.std.specs.Prelude.{ℕ, ◌+◌, Bool, true, false, not, ◌||◌, ◌&&◌, List, [], ◌∷◌}
 use Rattle.constraint_theory.specs.Systems.{ConstraintSystem}
+use Rattle.constraint_theory.specs.Edits.{Change}
 
 -- which of the numbers 0 and 1 the set holds
 abbrev pub Pair : Type 0
@@ -36,22 +37,13 @@ each_reads_one unknowns keys source target transfer = record {
   rank = λ _ a. size a;
 }
 
--- A diamond with a cycle: 1 is 0 with the number 0, 2 is 0 with the number 1, 3 is above both, and 1 above 3.
-abbrev pub diamond_source : ℕ → ℕ
-diamond_source k = cond (nat_lt k 2) 0 (cond (nat_eq k 2) 1 (cond (nat_eq k 3) 2 3))
-
-abbrev pub diamond_target : ℕ → ℕ
-diamond_target k = cond (nat_eq k 0) 1 (cond (nat_eq k 1) 2 (cond (nat_lt k 4) 3 1))
-
-abbrev pub diamond_transfer : ℕ → Pair → Pair
-diamond_transfer k a = union (nat_eq k 0, nat_eq k 1) a
-
-abbrev pub diamond : ConstraintSystem ℕ ℕ Pair
-diamond = each_reads_one (0 ∷ 1 ∷ 2 ∷ 3 ∷ []) (0 ∷ 1 ∷ 2 ∷ 3 ∷ 4 ∷ []) diamond_source diamond_target diamond_transfer
-
 -- One unknown that climbs: it holds 0, and 1 where it holds 0.
 abbrev pub climb_transfer : ℕ → Pair → Pair
 climb_transfer k a = (true, a.0)
 
 abbrev pub climb : ConstraintSystem ℕ ℕ Pair
 climb = each_reads_one (0 ∷ []) (0 ∷ []) (λ _. 0) (λ _. 0) climb_transfer
+
+-- what an edit says that changes nothing
+abbrev pub no_change : Change ℕ ℕ Pair
+no_change = record { gone = []; added = []; gone_unknowns = []; added_unknowns = []; movable = λ _. true; shift = λ a. a }

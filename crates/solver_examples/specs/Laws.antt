@@ -1,11 +1,17 @@
 -- That the systems for the tests meet the laws.
-use Rattle.std.proofs.Common.{◌≡◌, ℕ, ◌+◌, ◌<◌, ◌≤◌, Bool, true, false, cond, not, ◌||◌, ◌&&◌, ◌↔◌, List, [], ◌∷◌, refl, sym, ap, ◌∙◌, arith, inl, inr}
+use Rattle.std.proofs.Common.{◌≡◌, ℕ, ◌<◌, ◌≤◌, Bool, true, false, cond, not, ◌||◌, ◌↔◌, List, [], ◌∷◌, refl, sym, ap, ◌∙◌, arith, inl, inr}
 use Rattle.std.specs.Prelude.{nat_eq, nat_lt, ⊤}
+use Rattle.std.specs.Cmp.{IsStrictWeakOrder}
+use Rattle.std.specs.Ordering.{is_lt, nat_cmp}
+use Rattle.std.specs.declared.cmp.Ordering.TheVariants.{Less, Equal, Greater}
+use Rattle.std.specs.List.Sorted.{IsStrictlySortedBy}
+use Rattle.std.proofs.lemmas.List.MinMax.{IsStrictWeakOrder-by_number}
 use Rattle.std.proofs.lemmas.Bool.{and_from, and_parts, both_ways, cases_Bool, eq-eqb, eqb-true, or_cases, or_left, true≢false}
 use Rattle.list_theory.specs.Lists.{has, distinct}
 use Rattle.lattice_base.specs.Laws.{JoinLaws}
 use Rattle.constraint_theory.specs.Systems.{IsLawful, IsOver, numbers}
-use Rattle.solver_examples.specs.Examples.{Pair, bit, climb, climb_transfer, diamond, diamond_source, diamond_target, diamond_transfer, each_reads_one, includes, size, union}
+use Rattle.flow_solver.specs.Orders.{IsOrderOf}
+use Rattle.solver_examples.specs.Examples.{Pair, bit, climb, climb_transfer, each_reads_one, includes, size, union}
 
 joins : (a b : Pair) → includes a b ≡ true → union a b ≡ b
 joins (false, false) b h = refl
@@ -80,14 +86,14 @@ union_monotone g a b h =
     let up : ((not a.0 || b.0) ≡ true) × ((not a.1 || b.1) ≡ true) = and_parts (not a.0 || b.0) (not a.1 || b.1) h in
     and_from (not (g.0 || a.0) || (g.0 || b.0)) (not (g.1 || a.1) || (g.1 || b.1)) (bit_union g.0 a.0 b.0 up.0) (bit_union g.1 a.1 b.1 up.1)
 
-module _ (unknowns keys : List ℕ) (source target : ℕ → ℕ) (transfer : ℕ → Pair → Pair) (once : distinct nat_eq keys ≡ true) (targets : (k : ℕ) → has nat_eq unknowns (target k) ≡ true) (sources : (k : ℕ) → has nat_eq unknowns (source k) ≡ true) (monotone : (k : ℕ) (a b : Pair) → includes a b ≡ true → includes (transfer k a) (transfer k b) ≡ true) where
+module _ (unknowns keys : List ℕ) (source target : ℕ → ℕ) (transfer : ℕ → Pair → Pair) (once : distinct nat_eq keys ≡ true) (targets : (k : ℕ) → has nat_eq keys k ≡ true → has nat_eq unknowns (target k) ≡ true) (sources : (k : ℕ) → has nat_eq keys k ≡ true → has nat_eq unknowns (source k) ≡ true) (monotone : (k : ℕ) (a b : Pair) → includes a b ≡ true → includes (transfer k a) (transfer k b) ≡ true) where
   pub each_lawful : IsLawful numbers (each_reads_one unknowns keys source target transfer)
   each_lawful = record {
     monotone = record {
       keys_once = once;
-      target_used = λ k _. targets k;
-      reads_used = λ k u _ read. elim (or_cases (nat_eq (source k) u) false read) [
-        | inl e ↦ ap (has nat_eq unknowns) (sym (eqb-true (source k) u e)) ∙ sources k
+      target_used = targets;
+      reads_used = λ k u known read. elim (or_cases (nat_eq (source k) u) false read) [
+        | inl e ↦ ap (has nat_eq unknowns) (sym (eqb-true (source k) u e)) ∙ sources k known
         | inr e ↦ absurd (true≢false (sym e))
       ];
       bottom_fits = λ u _. refl;
@@ -99,7 +105,7 @@ module _ (unknowns keys : List ℕ) (source target : ℕ → ℕ) (transfer : �
       commutative = λ u a b _ _ _. pair (a.0 || b.0) (a.1 || b.1) (b.0 || a.0) (b.1 || a.1) (or_swap a.0 b.0) (or_swap a.1 b.1);
       associative = λ u a b c _ _ _ _. pair ((a.0 || b.0) || c.0) ((a.1 || b.1) || c.1) (a.0 || (b.0 || c.0)) (a.1 || (b.1 || c.1)) (or_group a.0 b.0 c.0) (or_group a.1 b.1 c.1);
       neutral = λ u a _ _. refl;
-      eval_monotone = λ k a b _ _ _ under. monotone k (a (source k)) (b (source k)) (under (source k) (sources k));
+      eval_monotone = λ k a b known _ _ under. monotone k (a (source k)) (b (source k)) (under (source k) (sources k known));
       eval_reads = λ k a b _ _ _ same. ap (transfer k) (same (source k) (or_left (nat_eq (source k) (source k)) false (eq-eqb (source k) (source k) refl)));
     };
     ranks = record {
@@ -119,27 +125,34 @@ pair_laws = record {
   neutral = λ a _. refl;
 }
 
-in_diamond : (p q r : Bool) (i j k l : ℕ) → has nat_eq (0 ∷ 1 ∷ 2 ∷ 3 ∷ []) i ≡ true → has nat_eq (0 ∷ 1 ∷ 2 ∷ 3 ∷ []) j ≡ true → has nat_eq (0 ∷ 1 ∷ 2 ∷ 3 ∷ []) k ≡ true → has nat_eq (0 ∷ 1 ∷ 2 ∷ 3 ∷ []) l ≡ true → has nat_eq (0 ∷ 1 ∷ 2 ∷ 3 ∷ []) (cond p i (cond q j (cond r k l))) ≡ true
-in_diamond true q r i j k l a b c d = a
-in_diamond false true r i j k l a b c d = b
-in_diamond false false true i j k l a b c d = c
-in_diamond false false false i j k l a b c d = d
-
-pub diamond_lawful : IsLawful numbers diamond
-diamond_lawful = each_lawful (0 ∷ 1 ∷ 2 ∷ 3 ∷ []) (0 ∷ 1 ∷ 2 ∷ 3 ∷ 4 ∷ []) diamond_source diamond_target diamond_transfer refl
-    (λ k. in_diamond (nat_eq k 0) (nat_eq k 1) (nat_lt k 4) 1 2 3 1 refl refl refl refl)
-    (λ k. in_diamond (nat_lt k 2) (nat_eq k 2) (nat_eq k 3) 0 1 2 3 refl refl refl refl)
-    (λ k a b h. union_monotone (nat_eq k 0, nat_eq k 1) a b h)
-
-pub diamond_over : (u : ℕ) → IsOver diamond u (λ _. ⊤) (false, false) union
-diamond_over u = record { valid = λ v _. tt; bottom_is = refl; join_is = λ a b _ _. refl }
-
 pub climb_lawful : IsLawful numbers climb
-climb_lawful = each_lawful (0 ∷ []) (0 ∷ []) (λ _. 0) (λ _. 0) climb_transfer refl (λ k. refl) (λ k. refl)
+climb_lawful = each_lawful (0 ∷ []) (0 ∷ []) (λ _. 0) (λ _. 0) climb_transfer refl (λ k _. refl) (λ k _. refl)
     (λ k a b h. (and_parts (not a.0 || b.0) (not a.1 || b.1) h).0)
 
 pub climb_over : (u : ℕ) → IsOver climb u (λ _. ⊤) (false, false) union
 climb_over u = record { valid = λ v _. tt; bottom_is = refl; join_is = λ a b _ _. refl }
+
+less_is : (x y : ℕ) → is_lt (nat_cmp x y) ≡ nat_lt x y
+less_is x y = elim (nat_lt x y) as (λ b. is_lt (cond b Less (cond (nat_eq x y) Equal Greater)) ≡ b) [
+  | true ↦ refl
+  | false ↦ elim (nat_eq x y) as (λ b. is_lt (cond b Equal Greater) ≡ false) [ true ↦ refl | false ↦ refl ]
+]
+
+-- numbers that are compared by their places are in a weak order
+pub by_place : (place : ℕ → ℕ) → IsStrictWeakOrder (λ a b. is_lt (nat_cmp (place a) (place b)))
+by_place place =
+    let weak : IsStrictWeakOrder (λ a b. nat_lt (place a) (place b)) = IsStrictWeakOrder-by_number place in
+    record {
+      one_way = λ x y h. less_is (place y) (place x) ∙ weak.one_way x y (sym (less_is (place x) (place y)) ∙ h);
+      chain = λ x y z h i. less_is (place x) (place z) ∙ weak.chain x y z (sym (less_is (place x) (place y)) ∙ h) (sym (less_is (place y) (place z)) ∙ i);
+    }
+
+rising_one : IsStrictlySortedBy nat_cmp (0 ∷ [])
+unfolding IsStrictlySortedBy
+rising_one = (tt, tt)
+
+pub climb_ordered : IsOrderOf (0 ∷ []) nat_cmp
+climb_ordered = record { weak = by_place (λ k. k); rising = rising_one }
 
 pub pair_order : (a b : Pair) → (includes a b ≡ true) ↔ (union a b ≡ b)
 pair_order a b = (λ h. joins a b h, λ h. below a b h)

@@ -6,6 +6,7 @@ use flow_solver::{Engine, LastPick, SettleRefusal, System, Values, Visited};
 use flow_term::List;
 use lattice_base::Steps;
 use std::alloc::{AllocError, Global};
+use std::cmp::Ordering;
 use std::marker::Brand;
 use std::sync::ledger::{Blank, Ledger};
 use std::test::Fail;
@@ -18,15 +19,32 @@ struct Climb {
     ghost zero_is: { zero ≡ 0 ∷ [] },
 }
 
+/// There are no edits of it.
+#[derive(Drop)]
+struct NoEdit;
+
 impl System for Climb {
-    ghost use Rattle.solver_examples.specs.Examples.{climb};
-    ghost use Rattle.solver_examples.specs.Laws.{climb_lawful, climb_over};
+    ghost use Rattle.std.specs.Ordering.{nat_cmp};
+    ghost use Rattle.solver_examples.specs.Examples.{climb, no_change};
+    ghost use Rattle.solver_examples.specs.Laws.{climb_lawful, climb_ordered, climb_over};
 
     type L = Pairs;
+
+    type Edit = NoEdit;
 
     ghost meaning = { λ _. climb };
 
     ghost lattices = { λ s _. s.pairs };
+
+    ghost order = { λ _. nat_cmp };
+
+    ghost change = { λ _. no_change };
+
+    ghost is_edit = { λ _ _. ⊥ };
+
+    ghost next = { λ _ _. climb };
+
+    ghost is_reserved = { λ _ _. ⊥ };
 
     fn unknowns(&self) -> &List<usize> {
         &self.zero
@@ -68,9 +86,54 @@ impl System for Climb {
         Ok((true, held.0))
     }
 
+    fn compare(&self, a: usize, b: usize) -> Ordering {
+        a.cmp(&b)
+    }
+
+    fn gone<'a>(&'a self, edit: &'a NoEdit) -> &'a List<usize> {
+        &self.zero
+    }
+
+    fn added<'a>(&'a self, edit: &'a NoEdit) -> &'a List<usize> {
+        &self.zero
+    }
+
+    fn gone_unknowns<'a>(&'a self, edit: &'a NoEdit) -> &'a List<usize> {
+        &self.zero
+    }
+
+    fn added_unknowns<'a>(&'a self, edit: &'a NoEdit) -> &'a List<usize> {
+        &self.zero
+    }
+
+    fn fresh(
+        &self,
+        alloc: Global,
+        edit: &NoEdit,
+        unknown: usize,
+    ) -> Result<(bool, bool), AllocError> {
+        Ok((false, false))
+    }
+
+    fn renamed(&self, edit: &NoEdit) -> bool {
+        false
+    }
+
+    fn shift(&self, edit: &NoEdit, value: &mut (bool, bool)) {}
+
+    fn reserve(&mut self, edit: &NoEdit) -> Result<(), AllocError> {
+        Ok(())
+    }
+
+    fn commit(&mut self, edit: NoEdit) {}
+
     ghost laws = { λ _. climb_lawful };
 
     ghost over = { λ _ u _. climb_over u };
+
+    ghost ordered = { λ _. climb_ordered };
+
+    ghost edits = { λ _ _ never. absurd never };
 }
 
 /// What a climb in three visits shows.
