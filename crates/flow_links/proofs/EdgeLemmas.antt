@@ -16,7 +16,8 @@ use Rattle.flow_links.specs.Below.{link}
 use Rattle.flow_links.specs.inner.Gains.{Gains}
 use Rattle.flow_links.specs.inner.Numbers.{IsEdgeBelow, IsEdgeFrom, IsEdgeTo, IsGraphOf, IsLinkAt}
 use Rattle.flow_links.specs.inner.Reach.{IsArrow, Leads, by_arrow, over}
-use Rattle.flow_links.proofs.EndLemmas.{inner_is_no_node, point_of_injective}
+use Rattle.flow_syntax.proofs.LinkEnds.{inner_is_no_node}
+use Rattle.flow_links.proofs.EndLemmas.{point_of_injective}
 use Rattle.flow_links.proofs.NumberLemmas.{index_in}
 use Rattle.flow_links.proofs.SetLemmas.{none_in_nil, Gains-all}
 

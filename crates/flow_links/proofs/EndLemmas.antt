@@ -2,7 +2,7 @@
 use Rattle.std.proofs.Common.{◌≡◌, ℕ, ◌+◌, ◌-◌, ◌<◌, ◌≤◌, List, [], ◌∷◌, ◌++◌, length, get_or, Option, Some, None, refl, sym, ap, subst, ◌∙◌, inl, inr, arith}
 use Rattle.std.specs.Prelude.{◌⊎◌, ◌↔◌, Contains, slice_get, option_map}
 use Rattle.std.proofs.Math.Nat.{eq-or-lt_of_le}
-use Rattle.std.proofs.lemmas.Option.{slice_get_within, slice_get-get_or, same_Some}
+use Rattle.std.proofs.lemmas.Option.{slice_get-get_or}
 use Rattle.std.proofs.lemmas.List.Elements.{Contains-get_or, Contains-push, Contains-push_cases, Contains-append_left}
 use Rattle.flow_term.specs.declared.graph.Point.{Point}
 use Rattle.flow_term.specs.declared.graph.Point.TheVariants as point
@@ -11,28 +11,19 @@ use Rattle.flow_term.specs.declared.graph.Node.{Node}
 use Rattle.flow_term.specs.declared.graph.NodeKind.{NodeKind}
 use Rattle.flow_term.specs.declared.graph.NodeKind.TheVariants as kind
 use Rattle.flow_term.specs.declared.term.Term.{Term}
-use Rattle.flow_term.specs.Trees.{At}
 use Rattle.flow_syntax.specs.declared.spec.Spec.{Spec}
 use Rattle.flow_syntax.specs.declared.rule.FlowRule.{FlowRule}
 use Rattle.flow_syntax.specs.declared.rule.Item.{Item}
 use Rattle.flow_syntax.specs.declared.rule.ItemKind.{ItemKind}
 use Rattle.flow_syntax.specs.declared.rule.ItemKind.TheVariants as item
 use Rattle.flow_syntax.specs.Matching.{matches}
-use Rattle.flow_syntax.specs.Control.{rule_for, entered_at, argument, HasLongChains, HasBoundItems, IsUnboundItem}
-use Rattle.flow_syntax.specs.Graph.{IsLink, IsNode, IsInner, LinksAt, in_chain, through_empty, into_first, to_next, from_last, through_other, leaving, arriving, point_of, point_of_kind, below}
+use Rattle.flow_syntax.specs.Control.{argument, HasLongChains, HasBoundItems, IsUnboundItem}
+use Rattle.flow_syntax.specs.Graph.{IsLink, IsNode, in_chain, leaving, arriving, point_of, point_of_kind, below}
+use Rattle.flow_syntax.proofs.LinkEnds.{link_from, link_to, mapped_inner}
 use Rattle.flow_syntax.proofs.Matches.{found_among}
 use Rattle.flow_links.specs.Below.{link}
 use Rattle.flow_links.specs.inner.Ends.{IsEnd}
 use Rattle.flow_links.proofs.SetLemmas.{none_in_nil}
-
-inner_kind : (k : NodeKind) (p : List ℕ) → IsInner (point_of_kind k p) → ⊥
-inner_kind kind.Start p h = h
-inner_kind kind.Node p h = h
-inner_kind kind.End p h = h
-
--- an inner point is no node
-pub inner_is_no_node : (p : Point) (n : Node) → IsInner p → p ≡ point_of n → ⊥
-inner_is_no_node p n h e = inner_kind n.kind n.path (subst (λ (q : Point). IsInner q) e h)
 
 same_node : (k l : NodeKind) (p q : List ℕ) → point_of_kind k p ≡ point_of_kind l q → (k ≡ l) × (p ≡ q)
 same_node kind.Start kind.Start p q h = (refl, cc)
@@ -45,20 +36,6 @@ pub point_of_injective : (m n : Node) → point_of m ≡ point_of n → m ≡ n
 point_of_injective m n h =
     let same : (m.kind ≡ n.kind) × (m.path ≡ n.path) = same_node m.kind n.kind m.path n.path h in
     λ i. record { path = same.1 i; kind = same.0 i }
-
-mapped_inner : (f : List ℕ → Point) → ((p : List ℕ) → IsInner (f p)) → (o : Option (List ℕ)) (n : Node) → option_map f o ≡ Some (point_of n) → ⊥
-mapped_inner f inner None n h = cc
-mapped_inner f inner (Some p) n h = inner_is_no_node (f p) n (inner p) (same_Some (f p) (point_of n) h)
-
--- an item that is a node is one on both sides of an arrow
-arriving_node : (rule : FlowRule) (path : List ℕ) (it : ItemKind) (n : Node) → arriving rule path it ≡ Some (point_of n) → leaving rule path it ≡ Some (point_of n)
-arriving_node rule path (item.Whole x) n h = absurd (mapped_inner point.In (λ p. tt) (option_map (below path) (argument rule x)) n h)
-arriving_node rule path item.Entry n h = h
-arriving_node rule path item.Exit n h = h
-arriving_node rule path item.Start n h = h
-arriving_node rule path item.End n h = h
-arriving_node rule path item.This n h = h
-arriving_node rule path (item.Single x) n h = h
 
 leaving_node : (rule : FlowRule) (path : List ℕ) (it : ItemKind) (n : Node) → leaving rule path it ≡ Some (point_of n) → arriving rule path it ≡ Some (point_of n)
 leaving_node rule path (item.Whole x) n h = absurd (mapped_inner point.Out (λ p. tt) (option_map (below path) (argument rule x)) n h)
@@ -92,52 +69,13 @@ leaves rule path item.Start h = (point.Start path, refl)
 leaves rule path item.End h = (point.End path, refl)
 leaves rule path item.This h = (point.Node path, refl)
 
-pub contains_at : {X : Type 0} (xs : List X) (k : ℕ) (x : X) → slice_get xs k ≡ Some x → Contains xs x
-contains_at {X} xs k x h =
-    let within : k < length xs = slice_get_within xs k x h in
-    subst (λ (y : X). Contains xs y) (same_Some (get_or xs k x) x (sym (slice_get-get_or xs k x within) ∙ h)) (Contains-get_or xs k x within)
-
 module _ (spec : Spec) (tree : Term) (links : List Link) (exact : (x : Link) → Contains links x ↔ IsLink spec tree x.from x.to) (n : Node) where
-  named_from : (path : List ℕ) (t : Term) (a b : Point) → (position : At tree path ≡ Some t) → LinksAt (rule_for spec t) (entered_at spec tree path) t path a b → a ≡ point_of n → IsNode spec tree n
-  named_from path t a b position (in_chain rule chain left right counts has pair l r) e = record {
-    path = path;
-    rule = rule;
-    counts = record { t = t; position = position; counts = counts };
-    chain = chain;
-    has_chain = has;
-    it = left;
-    has_item = contains_at chain.items pair.0 left pair.1;
-    named = l ∙ ap Some e;
-  }
-  named_from path t a b position (through_empty en li p q) e = absurd (inner_is_no_node (point.In path) n tt (sym p ∙ e))
-  named_from path t a b position (into_first m en li p q) e = absurd (inner_is_no_node (point.In path) n tt (sym p ∙ e))
-  named_from path t a b position (to_next m k en li f p q) e = absurd (inner_is_no_node (point.Out (below path k)) n tt (sym p ∙ e))
-  named_from path t a b position (from_last m en li p q) e = absurd (inner_is_no_node (point.Out (below path m)) n tt (sym p ∙ e))
-  named_from path t a b position (through_other en li o p q) e = absurd (inner_is_no_node (point.In path) n tt (sym p ∙ e))
-
-  named_to : (path : List ℕ) (t : Term) (a b : Point) → (position : At tree path ≡ Some t) → LinksAt (rule_for spec t) (entered_at spec tree path) t path a b → b ≡ point_of n → IsNode spec tree n
-  named_to path t a b position (in_chain rule chain left right counts has pair l r) e = record {
-    path = path;
-    rule = rule;
-    counts = record { t = t; position = position; counts = counts };
-    chain = chain;
-    has_chain = has;
-    it = right;
-    has_item = contains_at chain.items (pair.0 + 1) right pair.2;
-    named = arriving_node rule path right.kind n (r ∙ ap Some e);
-  }
-  named_to path t a b position (through_empty en li p q) e = absurd (inner_is_no_node (point.Out path) n tt (sym q ∙ e))
-  named_to path t a b position (into_first m en li p q) e = absurd (inner_is_no_node (point.In (below path 0)) n tt (sym q ∙ e))
-  named_to path t a b position (to_next m k en li f p q) e = absurd (inner_is_no_node (point.In (below path (k + 1))) n tt (sym q ∙ e))
-  named_to path t a b position (from_last m en li p q) e = absurd (inner_is_no_node (point.Out path) n tt (sym q ∙ e))
-  named_to path t a b position (through_other en li o p q) e = absurd (inner_is_no_node (point.Out path) n tt (sym q ∙ e))
-
   node_of_end : IsEnd links n → IsNode spec tree n
   node_of_end h =
       let made : IsLink spec tree h.x.from h.x.to = (exact h.x).0 h.among in
       elim h.side [
-        | inl e ↦ named_from made.path made.t h.x.from h.x.to made.position made.made e
-        | inr e ↦ named_to made.path made.t h.x.from h.x.to made.position made.made e
+        | inl e ↦ link_from spec tree n h.x.to (subst (λ (p : Point). IsLink spec tree p h.x.to) e made)
+        | inr e ↦ link_to spec tree n h.x.from (subst (λ (p : Point). IsLink spec tree h.x.from p) e made)
       ]
 
   module _ (long : HasLongChains spec) (bound : HasBoundItems spec) where

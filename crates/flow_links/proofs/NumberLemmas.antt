@@ -9,10 +9,10 @@ use Rattle.indexmap.specs.IndexSet.{insert_key}
 use Rattle.flow_term.specs.declared.graph.Point.{Point}
 use Rattle.flow_term.specs.declared.graph.Link.{Link}
 use Rattle.flow_term.proofs.Same.{point_same, point_itself}
+use Rattle.flow_syntax.proofs.LinkEnds.{contains_at}
 use Rattle.flow_links.specs.Below.{link}
 use Rattle.flow_links.specs.inner.Numbers.{is_same_point, HasOwnNumbers, IsGraphOf, IsLinkAt, IsNumbered}
 use Rattle.flow_links.specs.inner.Reach.{row, IsArrow}
-use Rattle.flow_links.proofs.EndLemmas.{contains_at}
 use Rattle.flow_links.proofs.SetLemmas.{none_in_nil}
 
 pub index_in : {X : Type 0} (xs : List X) (x : X) → Contains xs x → (i : ℕ) × (slice_get xs i ≡ Some x)

@@ -10,9 +10,9 @@ use Rattle.std.proofs.lemmas.Map.Steps.{length-le_from_distinct_below}
 use Rattle.indexmap.specs.IndexSet.{insert_key}
 use Rattle.indexmap.proofs.CallerLemmas.{Contains-list_any}
 use Rattle.flow_term.specs.declared.graph.Point.{Point}
+use Rattle.flow_syntax.proofs.LinkEnds.{contains_at}
 use Rattle.flow_links.specs.inner.Gains.{Gains}
 use Rattle.flow_links.specs.inner.Reach.{IsArrow, IsInnerAt, Leads, by_arrow, over}
-use Rattle.flow_links.proofs.EndLemmas.{contains_at}
 use Rattle.flow_links.proofs.SetLemmas.{none_in_nil, Gains-same, Gains-then}
 
 pub gains_insert : (ks : List ℕ) (n : ℕ) → Gains ks (insert_key ◌==◌ ks n) (λ x. x ≡ n)

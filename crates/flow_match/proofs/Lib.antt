@@ -1,5 +1,6 @@
 pub mod Among
 pub mod Bindings
+pub mod EachVariable
 pub mod FirstHits
 pub mod Found
 pub mod Layers

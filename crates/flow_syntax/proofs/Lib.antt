@@ -6,6 +6,7 @@ pub mod Fits
 pub mod Fronts
 pub mod IdentifierTexts
 pub mod Lexemes
+pub mod LinkEnds
 pub mod Listed
 pub mod Matches
 pub mod Numbers

@@ -1,6 +1,6 @@
 -- What the values of a lattice are, and their joins, by the lattice's case.
-use Rattle.std.proofs.Common.{◌≡◌, List, sym, ap, ◌∙◌, subst, IfOk}
-use Rattle.std.specs.Prelude.{Result, Ok, Err}
+use Rattle.std.proofs.Common.{◌≡◌, ℕ, List, sym, ap, ◌∙◌, subst, IfOk}
+use Rattle.std.specs.Prelude.{IsTrue, Result, Ok, Err}
 use Rattle.std.specs.List.Sorted.{IsStrictlySortedBy}
 use Rattle.flow_term.specs.declared.elem.Elem.{Elem}
 use Rattle.flow_term.specs.declared.value.Value.{Value, Value-F, out-Value, roll-Value}
@@ -15,9 +15,12 @@ use Rattle.lattice_any.specs.declared.any.AnyL.TheVariants as any
 use Rattle.value_domains.specs.inner.Elements.{elem_total}
 use Rattle.value_domains.specs.inner.DomainLaws.{may_opens, map_opens, pair_opens}
 use Rattle.flow_syntax.specs.Types.{Sort, sort_of}
-use Rattle.value_domains.specs.Domains.{Domain, may, must, flat, map_to, pair_of, IsValueOf, joined_of, least_of}
+use Rattle.value_domains.specs.Domains.{Domain, Table, may, must, flat, map_to, pair_of, listed, IsListed, IsValueOf, has_element, item_in, joined_of, least_of, table_join}
 use Rattle.value_domains.specs.Values.{ValueLayer, union_of, map_join, must_join, flat_join, elems_in, entries_in, left_in, right_in, pairs_of, entries_of, IsMust, IsPairOf, IsSomePair}
-use Rattle.lattice_any.specs.TypeLaws.{any_laws, domain_may, domain_must, domain_flat, domain_map, domain_pair}
+use Rattle.lattice_any.specs.TypeLaws.{any_laws, domain_may, domain_must, domain_flat, domain_map, domain_pair, domain_table}
+use Rattle.lattice_any.specs.declared.named.NamedTable.{NamedTable}
+use Rattle.lattice_any.specs.inner.Items.{IsSomeItem}
+use Rattle.lattice_any.specs.Tables.{table_of_names}
 use Rattle.lattice_any.specs.Types.{domain_of_any}
 
 pub is_may : (l : AnyL) (sort : ElemSort) → l ≡ any.May sort → domain_of_any l ≡ may (sort_of sort)
@@ -102,3 +105,28 @@ pub pair_joined : (l left right : AnyL) (a b a1 a2 b1 b2 v w : Value) → l ≡ 
 pair_joined l left right a b a1 a2 b1 b2 v w e f1 f2 g1 g2 hv hw =
     (λ i. value.Pair ((hv ∙ (λ j. joined_of (domain_of_any left) (f1 j) (g1 j))) i) ((hw ∙ (λ j. joined_of (domain_of_any right) (f2 j) (g2 j))) i))
     ∙ sym (join_at l (pair_of (domain_of_any left) (domain_of_any right)) a b (is_pair l left right e))
+
+-- -- elements of declared lattices
+
+pub is_table : (l : AnyL) (n : NamedTable) → l ≡ any.Table n → domain_of_any l ≡ listed (table_of_names n)
+is_table l n e = ap domain_of_any e ∙ domain_table n
+
+item_layer : (t : Table) (l : ValueLayer) → IsListed t l → IsSomeItem l
+item_layer t (Value-F.Item x) h = tt
+item_layer t _ h = absurd h
+
+listed_layer : (t : Table) (l : ValueLayer) → IsListed t l → IsTrue (has_element t (item_in l))
+listed_layer t (Value-F.Item x) h = h
+listed_layer t _ h = absurd h
+
+pub some_item : (l : AnyL) (n : NamedTable) (v : Value) → l ≡ any.Table n → IsValueOf (domain_of_any l) v → IsSomeItem (out-Value v)
+some_item l n v e h = item_layer (table_of_names n) (out-Value v) (valid_at l (listed (table_of_names n)) v (is_table l n e) h)
+
+pub item_listed : (l : AnyL) (n : NamedTable) (v : Value) (x : List ℕ) → l ≡ any.Table n → IsValueOf (domain_of_any l) v → x ≡ item_in (out-Value v) → IsTrue (has_element (table_of_names n) x)
+item_listed l n v x e h is =
+    subst (λ x. IsTrue (has_element (table_of_names n) x)) (sym is) (listed_layer (table_of_names n) (out-Value v) (valid_at l (listed (table_of_names n)) v (is_table l n e) h))
+
+pub table_joined : (l : AnyL) (n : NamedTable) (a b : Value) (x y z w : List ℕ) → l ≡ any.Table n → x ≡ item_in (out-Value a) → y ≡ item_in (out-Value b) → z ≡ table_join (table_of_names n) x y → w ≡ z
+    → value.Item w ≡ joined_of (domain_of_any l) a b
+table_joined l n a b x y z w e f g h k =
+    ap value.Item (k ∙ h ∙ (λ i. table_join (table_of_names n) (f i) (g i))) ∙ sym (join_at l (listed (table_of_names n)) a b (is_table l n e))

@@ -19,9 +19,6 @@ two_flats a b x y e f =
     ap (λ l. roll-Value (flat_join l (out-Value b))) (ap out-Value e ∙ value.outs-Flat x)
     ∙ ap (λ l. roll-Value (flat_join (Value-F.Flat x) l)) (ap out-Value f ∙ value.outs-Flat y)
 
-pub flat_same : (a b : Value) (x y : Elem) → a ≡ value.Flat x → b ≡ value.Flat y → eq_by_cmp elem_cmp x y ≡ true → a ≡ roll-Value (flat_join (out-Value a) (out-Value b))
-flat_same a b x y e f h = e ∙ sym (two_flats a b x y e f ∙ ap (λ t. one_or_top t x) h ∙ value.rolls-Flat x)
-
 pub flat_apart : (a b : Value) (x y : Elem) → a ≡ value.Flat x → b ≡ value.Flat y → eq_by_cmp elem_cmp x y ≡ false → value.Top ≡ roll-Value (flat_join (out-Value a) (out-Value b))
 flat_apart a b x y e f h = sym (two_flats a b x y e f ∙ ap (λ t. one_or_top t x) h ∙ value.rolls-Top)
 

@@ -3,6 +3,7 @@ pub mod Depths
 pub mod Elems
 pub mod FlatJoins
 pub mod Members
+pub mod NamedTables
 pub mod Orders
 pub mod SameValues
 pub mod Steps

@@ -16,11 +16,13 @@ use Rattle.lattice_sets.proofs.MapMerges.{answer_no}
 use Rattle.lattice_any.specs.declared.any.AnyL.{AnyL}
 use Rattle.lattice_any.specs.declared.any.AnyL.TheVariants as any
 use Rattle.flow_syntax.specs.Types.{Sort, sort_of}
-use Rattle.value_domains.specs.Domains.{Domain, may, must, flat, map_to, pair_of, IsValueOf, least_of}
+use Rattle.value_domains.specs.Domains.{Domain, may, must, flat, map_to, pair_of, listed, IsListed, IsValueOf, least_of}
 use Rattle.value_domains.specs.Values.{ValueLayer, IsMay, IsMust, IsFlat, IsMapOf, IsMapTo, IsOfSort, IsPairOf, pairs_of}
+use Rattle.lattice_any.specs.declared.named.NamedTable.{NamedTable}
+use Rattle.lattice_any.specs.Tables.{table_of_names}
 use Rattle.lattice_any.specs.Types.{domain_of_any}
 use Rattle.value_text.specs.Texts.{keys}
-use Rattle.lattice_any.proofs.AtTypes.{is_may, is_must, is_flat, is_map, is_pair}
+use Rattle.lattice_any.proofs.AtTypes.{is_may, is_must, is_flat, is_map, is_pair, is_table}
 use Rattle.lattice_any.proofs.FlatJoins.{layer_of}
 
 -- -- one of a lattice
@@ -66,6 +68,9 @@ pub no_pair : (l left right : AnyL) (v : Value) → l ≡ any.Pair left right �
 no_pair l left right v e none =
     at_lattice l (pair_of (domain_of_any left) (domain_of_any right)) v false (is_pair l left right e)
     (answer_no (λ h. h, λ h. h) (not_pair (IsValueOf (domain_of_any left)) (IsValueOf (domain_of_any right)) (out-Value v) (λ a b f. none a b (layer_of v (Value-F.Pair a b) f ∙ value.rolls-Pair a b))))
+
+pub table_member : (l : AnyL) (n : NamedTable) (v : Value) (r : Bool) → l ≡ any.Table n → (r ≡ true) ↔ IsListed (table_of_names n) (out-Value v) → (r ≡ true) ↔ IsValueOf (domain_of_any l) v
+table_member l n v r e is = at_lattice l (listed (table_of_names n)) v r (is_table l n e) is
 
 -- -- the least of a lattice
 

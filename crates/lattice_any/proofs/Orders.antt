@@ -1,5 +1,5 @@
 -- One value is below another where the join of the two is the other, by the lattice's case.
-use Rattle.std.proofs.Common.{◌≡◌, ◌↔◌, Bool, true, false, List, sym, ap, ◌∙◌, subst}
+use Rattle.std.proofs.Common.{◌≡◌, ◌↔◌, ℕ, Bool, true, false, List, sym, ap, ◌∙◌, subst}
 use Rattle.std.specs.Ordering.{eq_by_cmp}
 use Rattle.std.proofs.lemmas.Bool.{both_ways}
 use Rattle.flow_term.specs.declared.elem.Elem.{Elem}
@@ -12,12 +12,14 @@ use Rattle.lattice_any.specs.declared.any.AnyL.{AnyL}
 use Rattle.lattice_any.specs.declared.any.AnyL.TheVariants as any
 use Rattle.value_domains.specs.inner.DomainLaws.{map_opened, map_whole, pair_whole}
 use Rattle.flow_syntax.specs.Types.{sort_of}
-use Rattle.value_domains.specs.Domains.{Domain, may, must, flat, map_to, pair_of, IsBelowIn, IsValueOf, joined_of}
+use Rattle.value_domains.specs.Domains.{Domain, may, must, flat, map_to, pair_of, listed, IsBelowIn, IsValueOf, item_in, joined_of, table_join}
 use Rattle.value_domains.specs.Values.{map_join, Includes, IsBelowMust, IsBelowFlat, elems_in, entries_in, map_in, left_in, right_in, pairs_of, entries_of}
 use Rattle.lattice_any.specs.TypeLaws.{any_laws, any_order}
+use Rattle.lattice_any.specs.declared.named.NamedTable.{NamedTable}
+use Rattle.lattice_any.specs.Tables.{table_of_names}
 use Rattle.lattice_any.specs.Types.{domain_of_any}
 use Rattle.lattice_any.proofs.SameValues.{elem_told}
-use Rattle.lattice_any.proofs.AtTypes.{is_may, is_must, is_flat, is_map, is_pair, valid_at, join_at}
+use Rattle.lattice_any.proofs.AtTypes.{is_may, is_must, is_flat, is_map, is_pair, is_table, valid_at, join_at}
 
 -- -- at two layers
 
@@ -49,6 +51,12 @@ module _ (l : AnyL) (a b : Value) (left : IsValueOf (domain_of_any l) a) (right 
 
   pub flat_below : (sort : ElemSort) (r : Bool) → l ≡ any.Flat sort → (r ≡ true) ↔ IsBelowFlat (out-Value a) (out-Value b) → (r ≡ true) ↔ (joined_of (domain_of_any l) a b ≡ b)
   flat_below sort r e is = by_join (flat (sort_of sort)) r (is_flat l sort e) is
+
+  pub table_below : (n : NamedTable) (x y : List ℕ) (r : Bool) → l ≡ any.Table n → x ≡ item_in (out-Value a) → y ≡ item_in (out-Value b) → (r ≡ true) ↔ (table_join (table_of_names n) x y ≡ y)
+      → (r ≡ true) ↔ (joined_of (domain_of_any l) a b ≡ b)
+  table_below n x y r e f g is =
+      by_join (listed (table_of_names n)) r (is_table l n e)
+      (subst (λ x. (r ≡ true) ↔ (table_join (table_of_names n) x (item_in (out-Value b)) ≡ item_in (out-Value b))) f (subst (λ y. (r ≡ true) ↔ (table_join (table_of_names n) x y ≡ y)) g is))
 
   pub map_below : (sort : ElemSort) (values : AnyL) (xs ys : List Entry) (r : Bool) → l ≡ any.Map sort values → xs ≡ entries_in (out-Value a) → ys ≡ entries_in (out-Value b)
       → (r ≡ true) ↔ (map_join (joined_of (domain_of_any values)) (pairs_of xs) (pairs_of ys) ≡ pairs_of ys) → (r ≡ true) ↔ (joined_of (domain_of_any l) a b ≡ b)

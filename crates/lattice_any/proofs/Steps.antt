@@ -27,9 +27,6 @@ module _ (IsInner : Value → Type 0) (least : Value) where
   pub rest_passed : (x : Entry) (xs left : List Entry) → left ≡ x ∷ xs → IsPassed left → IsPassed xs
   rest_passed x xs left e h = rest_map IsInner least elem_cmp elem_total (x.key, x.value) (pairs_of xs) (pairs_of left) (ap pairs_of e) h
 
-  pub first_passed : (x : Entry) (xs left : List Entry) → left ≡ x ∷ xs → IsPassed left → IsInner x.value
-  first_passed x xs left e h = first_kept IsInner least (x.key, x.value) (pairs_of xs) (pairs_of left) (ap pairs_of e) h.kept
-
 module _ (join : Value → Value → Value) (IsInner : Value → Type 0) (least : Value) where
   abbrev joined : List Entry → List Entry → List (Elem × Value)
   joined a b = map_join join (pairs_of a) (pairs_of b)
@@ -69,10 +66,6 @@ module _ (join : Value → Value → Value) (IsInner : Value → Type 0) (least 
       ended left right done first all whole (join_right_ended elem_cmp elem_total elem_exact join (pairs_of left) (pairs_of right) (length-map right _ ∙ none)) was f g
 
   -- -- where the join of two maps is the second
-
-  pub below_ends : (x : Entry) (xs left right : List Entry) → left ≡ x ∷ xs → length right ≡ 0 → joined left right ≡ pairs_of right → ⊥
-  below_ends x xs left right e none is =
-      not_below_ended elem_cmp elem_total elem_exact join (x.key, x.value) (pairs_of xs) (pairs_of left) (pairs_of right) (ap pairs_of e) (length-map right _ ∙ none) is
 
   pub below_less : (x y : Entry) (xs ys left right : List Entry) → left ≡ x ∷ xs → right ≡ y ∷ ys → IsPassed IsInner least right → Less ≡ order.ghosts.cmp x.key y.key → joined left right ≡ pairs_of right → ⊥
   below_less x y xs ys left right e f hr less is =

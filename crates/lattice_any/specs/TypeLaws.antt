@@ -3,8 +3,12 @@ use Rattle.std.proofs.Common.{◌≡◌, sym, ap, ◌∙◌, subst}
 use Rattle.flow_syntax.specs.declared.types.ElemSort.{ElemSort}
 use Rattle.flow_syntax.specs.Types.{sort_of}
 use Rattle.lattice_base.specs.Laws.{JoinLaws, OrderLaw}
-use Rattle.value_domains.specs.Domains.{Domain, may, must, flat, map_to, pair_of, IsValueOf, least_of, joined_of, IsBelowIn}
-use Rattle.value_domains.specs.Lawful.{IsLawful}
+use Rattle.value_domains.specs.Domains.{Domain, may, must, flat, map_to, pair_of, listed, IsValueOf, least_of, joined_of, IsBelowIn}
+use Rattle.value_domains.specs.Lawful.{IsLawful, IsLawfulTable}
+use Rattle.table_laws.specs.JoinTables.{IsComplete, IsLawful as IsLawfulNumbers}
+use Rattle.table_laws.specs.inner.Numbers.{lawful_names}
+use Rattle.lattice_any.specs.declared.named.NamedTable.{NamedTable}
+use Rattle.lattice_any.specs.Tables.{table_of_names}
 use Rattle.value_domains.specs.inner.DomainLaws.{domain_laws, domain_order}
 use Rattle.lattice_any.specs.declared.any.AnyL.{AnyL, AnyL-F, fold-roll-AnyL, map-AnyL, ind-AnyL, roll-AnyL}
 use Rattle.lattice_any.specs.declared.any.AnyL.TheVariants as any
@@ -30,7 +34,14 @@ domain_map sort values = ap domain_of_any (sym (any.rolls-Map sort values)) ∙ 
 pub domain_pair : (left right : AnyL) → domain_of_any (any.Pair left right) ≡ pair_of (domain_of_any left) (domain_of_any right)
 domain_pair left right = ap domain_of_any (sym (any.rolls-Pair left right)) ∙ domain_rolled (AnyL-F.Pair left right)
 
+pub domain_table : (table : NamedTable) → domain_of_any (any.Table table) ≡ listed (table_of_names table)
+domain_table table = ap domain_of_any (sym (any.rolls-Table table)) ∙ domain_rolled (AnyL-F.Table table)
+
 -- THE LAWS
+
+-- the joins of named elements are those of a lattice, since those of their numbers are
+pub named_lawful : (n : NamedTable) → IsLawfulTable (table_of_names n)
+named_lawful n = lawful_names (table_of_names n) (subst IsComplete (sym n.numbers) n.table.complete) (subst IsLawfulNumbers (sym n.numbers) n.table.lawful)
 
 abbrev HasLawful : AnyL → Type 0
 HasLawful l = IsLawful (domain_of_any l)
@@ -44,6 +55,7 @@ lawful_layer (AnyL-F.Must sort) = tt
 lawful_layer (AnyL-F.Flat sort) = tt
 lawful_layer (AnyL-F.Map sort values) = values.1
 lawful_layer (AnyL-F.Pair left right) = (left.1, right.1)
+lawful_layer (AnyL-F.Table table) = named_lawful table
 
 -- a lattice's domain has lawful tables
 pub any_lawful : (l : AnyL) → HasLawful l

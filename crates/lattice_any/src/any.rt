@@ -1,11 +1,13 @@
 //! The lattice of a type.
 ghost use Rattle.std.specs.Prelude.{◌≡◌, ◌↔◌, IsTrue, IfOk};
 ghost use Rattle.value_domains.specs.Domains.{IsValueOf};
-ghost use Rattle.lattice_any.specs.Types.{AreIn, IsOfType, domain_of_any};
+ghost use Rattle.lattice_any.specs.Tables.{domain_in};
+ghost use Rattle.lattice_any.specs.Types.{domain_of_any};
 
 use crate::copy::{build_lattice, copy_lattice};
 use crate::join::{join_values, least_value};
 use crate::member::is_value;
+use crate::named::NamedTable;
 use crate::order::is_below;
 use crate::same::is_same_value;
 use crate::tables::Tables;
@@ -29,15 +31,17 @@ pub enum AnyL {
     Map(ElemSort, Boxed<AnyL>),
     /// Pairs of values of two lattices, part by part.
     Pair(Boxed<AnyL>, Boxed<AnyL>),
+    /// The elements of a declared lattice, ordered and joined by its table.
+    Table(NamedTable),
 }
 
 impl AnyL {
-    /// The lattice of the type. Fails only for want of memory.
+    /// The lattice of the type, with these tables for the lattices that it names; a name that is none of theirs stands for the
+    /// lattice of one element. Fails only for want of memory.
     pub fn build(alloc: Global, tables: &Tables, of: &LatticeType) -> Result<AnyL, AllocError>
-        requires { AreIn of.now tables.now }
-        ensures { IfOk result (IsOfType of.now) }
+        ensures { IfOk result (λ lattice. domain_of_any lattice ≡ domain_in tables.now of.now) }
     {
-        build_lattice(alloc, of)
+        build_lattice(alloc, tables, of)
     }
 
     /// An equal lattice. Fails only for want of memory.

@@ -1,17 +1,33 @@
 //! Lattices made from types, and copies of them.
 ghost use Rattle.std.specs.Prelude.{◌≡◌, IfOk};
-ghost use Rattle.value_domains.specs.Lawful.{NamesNoTable};
-ghost use Rattle.lattice_any.specs.Types.{IsOfType};
+ghost use Rattle.value_domains.specs.Domains.{listed};
+ghost use Rattle.lattice_any.specs.Tables.{declarations_in, domain_in, table_among};
+ghost use Rattle.lattice_any.specs.Types.{domain_of_any};
 
 use crate::any::AnyL;
+use crate::named::NamedTable;
+use crate::tables::Tables;
 use flow_syntax::LatticeType;
-use flow_term::Boxed;
+use flow_term::{Boxed, Text};
 use std::alloc::{AllocError, Global};
 
-/// The lattice of a type that names no table.
-pub(crate) fn build_lattice(alloc: Global, of: &LatticeType) -> Result<AnyL, AllocError>
-    requires { NamesNoTable of.now }
-    ensures { IfOk result (IsOfType of.now) }
+/// The lattice of a table.
+fn build_table(alloc: Global, tables: &Tables, name: &Text) -> Result<AnyL, AllocError>
+    ensures { IfOk result (λ lattice. domain_of_any lattice ≡ listed (table_among (declarations_in tables.now) name.now)) }
+{
+    match tables.named(name) {
+        Some(table) => Ok(AnyL::Table(table.duplicate(alloc)?)),
+        None => Ok(AnyL::Table(NamedTable::only(alloc)?)),
+    }
+}
+
+/// The lattice of a type.
+pub(crate) fn build_lattice(
+    alloc: Global,
+    tables: &Tables,
+    of: &LatticeType,
+) -> Result<AnyL, AllocError>
+    ensures { IfOk result (λ lattice. domain_of_any lattice ≡ domain_in tables.now of.now) }
 {
     match of {
         LatticeType::May(sort) => Ok(AnyL::May(sort.duplicate(alloc)?)),
@@ -19,15 +35,15 @@ pub(crate) fn build_lattice(alloc: Global, of: &LatticeType) -> Result<AnyL, All
         LatticeType::Flat(sort) => Ok(AnyL::Flat(sort.duplicate(alloc)?)),
         LatticeType::Map(sort, values) => {
             let keys = sort.duplicate(alloc)?;
-            let inner = build_lattice(alloc, values.get())?;
+            let inner = build_lattice(alloc, tables, values.get())?;
             Ok(AnyL::Map(keys, Boxed::new(alloc, inner)?))
         }
         LatticeType::Pair(left, right) => {
-            let first = build_lattice(alloc, left.get())?;
-            let second = build_lattice(alloc, right.get())?;
+            let first = build_lattice(alloc, tables, left.get())?;
+            let second = build_lattice(alloc, tables, right.get())?;
             Ok(AnyL::Pair(Boxed::new(alloc, first)?, Boxed::new(alloc, second)?))
         }
-        LatticeType::Table(_) => unreachable!(),
+        LatticeType::Table(name) => build_table(alloc, tables, &name.text),
     }
 }
 
@@ -49,5 +65,6 @@ pub(crate) fn copy_lattice(alloc: Global, lattice: &AnyL) -> Result<AnyL, AllocE
             let second = copy_lattice(alloc, right.get())?;
             Ok(AnyL::Pair(Boxed::new(alloc, first)?, Boxed::new(alloc, second)?))
         }
+        AnyL::Table(table) => Ok(AnyL::Table(table.duplicate(alloc)?)),
     }
 }

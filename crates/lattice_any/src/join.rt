@@ -7,7 +7,9 @@ ghost use Rattle.value_domains.specs.Values.{entries_of, map_join, pairs_of};
 ghost use Rattle.lattice_any.specs.Types.{domain_of_any};
 
 use crate::any::AnyL;
-use crate::parts::{elems, entries, join_flat, join_must, parts, push_copies, push_copy, union};
+use crate::parts::{
+    elems, entries, item, join_flat, join_must, parts, push_copies, push_copy, union,
+};
 use flow_term::{Boxed, Element, Entry, List, Value};
 use std::alloc::{AllocError, Global};
 use std::cmp::Ordering;
@@ -39,6 +41,7 @@ pub(crate) fn join_values(
             let second = join_values(right.get(), alloc, a_right, b_right)?;
             Ok(Value::Pair(Boxed::new(alloc, first)?, Boxed::new(alloc, second)?))
         }
+        AnyL::Table(table) => Ok(Value::Item(table.join(item(a), item(b)).duplicate()?)),
     }
 }
 
@@ -111,5 +114,6 @@ pub(crate) fn least_value(lattice: &AnyL, alloc: Global) -> Result<Value, AllocE
             let second = least_value(right.get(), alloc)?;
             Ok(Value::Pair(Boxed::new(alloc, first)?, Boxed::new(alloc, second)?))
         }
+        AnyL::Table(table) => Ok(Value::Item(table.least().duplicate()?)),
     }
 }

@@ -2,16 +2,18 @@
 ghost use Rattle.std.specs.Prelude.{◌≡◌, ◌↔◌, [], IsTrue, All};
 ghost use Rattle.std.specs.Map.{keys_of, values_of};
 ghost use Rattle.flow_term.specs.declared.value.Value.{out-Value};
-ghost use Rattle.flow_term.specs.declared.value.Value.TheVariants.{Bottom, Map, Set, Unreached};
+ghost use Rattle.flow_term.specs.declared.value.Value.TheVariants.{Bottom, Item, Map, Set, Unreached};
 ghost use Rattle.flow_syntax.specs.Types.{sort_of};
-ghost use Rattle.value_domains.specs.Domains.{IsValueOf, least_of};
+ghost use Rattle.value_domains.specs.Domains.{IsListed, IsValueOf, least_of};
 ghost use Rattle.value_domains.specs.Values.{IsFlat, IsMapOf, IsMay, IsMust, IsOfSort, IsSetOf, is_of_sort, pairs_of};
 ghost use Rattle.lattice_any.specs.Members.{IsKeptIn};
+ghost use Rattle.lattice_any.specs.Tables.{table_of_names};
 ghost use Rattle.lattice_any.specs.Types.{domain_of_any};
 
 use crate::any::AnyL;
+use crate::named::NamedTable;
 use flow_syntax::ElemSort;
-use flow_term::{Elem, Entry, Value};
+use flow_term::{Elem, Entry, Text, Value};
 use value_text::{elems_rise, keys_rise};
 
 /// Whether the element is of the sort.
@@ -104,6 +106,26 @@ fn is_bottom(value: &Value) -> bool
     matches!(value, Value::Bottom)
 }
 
+/// Whether the value is the element of this name.
+fn is_item(value: &Value, name: &Text) -> bool
+    ensures { IsTrue result ↔ (value.now ≡ Item name.now) }
+{
+    match value {
+        Value::Item(x) => x == name,
+        _ => false,
+    }
+}
+
+/// Whether the value is an element of the table.
+fn is_listed(table: &NamedTable, value: &Value) -> bool
+    ensures { IsTrue result ↔ IsListed (table_of_names table.now) (out-Value value.now) }
+{
+    match value {
+        Value::Item(x) => table.has(x),
+        _ => false,
+    }
+}
+
 /// Whether the value is the least of the lattice.
 fn is_least(lattice: &AnyL, value: &Value) -> bool
     ensures { IsTrue result ↔ (value.now ≡ least_of (domain_of_any lattice.now)) }
@@ -117,6 +139,7 @@ fn is_least(lattice: &AnyL, value: &Value) -> bool
             Value::Pair(a, b) => is_least(left.get(), a.get()) && is_least(right.get(), b.get()),
             _ => false,
         },
+        AnyL::Table(table) => is_item(value, table.least()),
     }
 }
 
@@ -144,6 +167,7 @@ pub(crate) fn is_value(lattice: &AnyL, value: &Value) -> bool
             Value::Pair(a, b) => is_value(left.get(), a.get()) && is_value(right.get(), b.get()),
             _ => false,
         },
+        AnyL::Table(table) => is_listed(table, value),
     }
 }
 

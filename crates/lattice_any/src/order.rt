@@ -7,7 +7,7 @@ ghost use Rattle.value_domains.specs.Values.{map_join, pairs_of};
 ghost use Rattle.lattice_any.specs.Types.{domain_of_any};
 
 use crate::any::AnyL;
-use crate::parts::{elems, entries, includes, is_below_flat, is_below_must, parts};
+use crate::parts::{elems, entries, includes, is_below_flat, is_below_must, item, parts};
 use flow_term::{Entry, Value};
 use std::cmp::Ordering;
 
@@ -28,6 +28,7 @@ pub(crate) fn is_below(lattice: &AnyL, a: &Value, b: &Value) -> bool
             let (b_left, b_right) = parts(b);
             is_below(left.get(), a_left, b_left) && is_below(right.get(), a_right, b_right)
         }
+        AnyL::Table(table) => table.is_below(item(a), item(b)),
     }
 }
 

@@ -4,9 +4,11 @@ ghost use Rattle.std.specs.List.Sorted.{IsStrictlySortedBy};
 ghost use Rattle.std.specs.Ordering.{eq_by_cmp};
 ghost use Rattle.flow_term.specs.Elements.{elem_cmp};
 ghost use Rattle.flow_term.specs.declared.value.Value.{out-Value, roll-Value};
+ghost use Rattle.value_domains.specs.Domains.{item_in};
+ghost use Rattle.lattice_any.specs.inner.Items.{IsSomeItem};
 ghost use Rattle.value_domains.specs.Values.{elems_in, entries_in, flat_join, Includes, intersection_of, IsBelowFlat, IsBelowMust, IsSomePair, left_in, must_join, pairs_of, right_in, union_of};
 
-use flow_term::{Elem, Entry, List, Value};
+use flow_term::{Elem, Entry, List, Text, Value};
 use std::alloc::{AllocError, Global};
 
 /// The elements of a set; of another value none.
@@ -97,6 +99,17 @@ pub(crate) fn parts(value: &Value) -> (&Value, &Value)
 {
     match value {
         Value::Pair(left, right) => (left.get(), right.get()),
+        _ => unreachable!(),
+    }
+}
+
+/// The name of an element of a declared lattice.
+pub(crate) fn item(value: &Value) -> &Text
+    requires { IsSomeItem (out-Value value.now) }
+    ensures { result.now ≡ item_in (out-Value value.now) }
+{
+    match value {
+        Value::Item(name) => name,
         _ => unreachable!(),
     }
 }

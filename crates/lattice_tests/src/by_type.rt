@@ -3,10 +3,12 @@ ghost use Rattle.lattice_any.specs.Types.{domain_of_any};
 ghost use Rattle.value_domains.specs.Domains.{IsValueOf};
 
 use crate::joins::join_of;
+use crate::tables::sign_tables;
 use flow_syntax::{ElemSort, LatticeType, Named};
 use flow_term::{Boxed, List, Text, Value};
 use lattice_any::{
-    AnyL, Tables, map_joins_are_pointwise, read_value, set_joins_are_unions_and_intersections,
+    AnyL, declared_types_have_their_domains, map_joins_are_pointwise, read_value,
+    set_joins_are_unions_and_intersections,
 };
 use lattice_base::Lattice;
 use std::alloc::{AllocError, Global};
@@ -40,10 +42,15 @@ fn items_type(alloc: Global) -> Result<Boxed<LatticeType>, AllocError> {
     )
 }
 
-/// Maps to the values of a declared lattice.
-fn table_type(alloc: Global) -> Result<Boxed<LatticeType>, AllocError> {
-    let text = Text::from_string(String::from_str(alloc, "Sign")?);
-    let values = Boxed::new(alloc, LatticeType::Table(Named { text, place: 0 }))?;
+/// A lattice of this name.
+fn table_type(alloc: Global, name: &str) -> Result<Boxed<LatticeType>, AllocError> {
+    let text = Text::from_string(String::from_str(alloc, name)?);
+    Boxed::new(alloc, LatticeType::Table(Named { text, place: 0 }))
+}
+
+/// Maps to the elements of a declared lattice.
+fn signs_type(alloc: Global) -> Result<Boxed<LatticeType>, AllocError> {
+    let values = table_type(alloc, "Sign")?;
     Boxed::new(alloc, LatticeType::Map(ElemSort::Name, values))
 }
 
@@ -58,7 +65,8 @@ fn type_of(alloc: Global, word: &str) -> Result<Boxed<LatticeType>, AllocError> 
         "pairs" => pairs_type(alloc),
         "items" => items_type(alloc),
         "positions" => Boxed::new(alloc, LatticeType::May(ElemSort::Pos)),
-        _ => table_type(alloc),
+        "signs" => signs_type(alloc),
+        name => table_type(alloc, name),
     }
 }
 
@@ -113,10 +121,7 @@ fn told_of_type(
     a: &Value,
     b: &Value,
 ) -> Result<Vec<u8>, AllocError> {
-    let tables = Tables::new().duplicate(alloc)?;
-    if !tables.cover(of) {
-        return Vec::from_slice(alloc, b"no lattice");
-    }
+    let tables = sign_tables(alloc)?.duplicate(alloc)?;
     let lattice = AnyL::build(alloc, &tables, of)?.duplicate(alloc)?;
     told_by(alloc, &lattice, a, b)
 }
@@ -160,9 +165,12 @@ pair | ({"a"}, bottom) | ({"b"}, flat(1)) => ({}, bottom) | ({"a", "b"}, flat(1)
 pairs | {("a", 1)} | {("a", 2)} => {} | {("a", 1), ("a", 2)}
 items | {red} | {blue} => {} | {blue, red}
 positions | {/1} | {/0/1} => {} | {/0/1, /1}
+Sign | Neg | Pos => Bot | Top
+Sign | Pos | Bot => Bot | Pos
+signs | ["a" |-> Neg] | ["a" |-> Pos, "b" |-> Neg] => [] | ["a" |-> Top, "b" |-> Neg]
 "#;
 
-/// Values of another sort or type, an entry that is bottom, and a type with a table.
+/// Values of another sort or type, an entry that is bottom, names that are no elements, and a lattice that isn't declared.
 const REFUSED: &str = r#"
 may | {'a'} | {} => no value
 may | {} | unreached => no value
@@ -171,12 +179,16 @@ map | ["a" |-> bottom] | [] => no value
 pairs | {(1, "a")} | {} => no value
 pairs | {"a"} | {} => no value
 items | {'red'} | {} => no value
-table | [] | [] => no lattice
+Sign | Zero | Bot => no value
+Sign | flat(1) | Bot => no value
+signs | ["a" |-> Bot] | [] => no value
+Other | Neg | Neg => no value
 "#;
 
 #[test]
 fn values_join_by_their_type(rt: HostRuntime) -> Result<(), Fail> {
     set_joins_are_unions_and_intersections();
+    declared_types_have_their_domains();
     for table in [JOINS, REFUSED] {
         assert_eq!(rt; wrong_rows(rt.alloc(), table)?.as_str(), "");
     }

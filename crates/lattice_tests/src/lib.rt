@@ -11,3 +11,5 @@ mod joins;
 mod lists;
 #[cfg(test)]
 mod sets;
+#[cfg(test)]
+mod tables;

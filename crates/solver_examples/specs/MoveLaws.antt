@@ -16,13 +16,31 @@ use Rattle.solver_examples.specs.Moves.{moving, moving_keys, moving_order, movin
 by_number : (P : ℕ → Type 0) → P 0 → P 1 → P 2 → P 3 → P 4 → P 5 → P 6
     → ((k : ℕ) → nat_eq 0 k ≡ false → nat_eq 1 k ≡ false → nat_eq 2 k ≡ false → nat_eq 3 k ≡ false → nat_eq 4 k ≡ false → nat_eq 5 k ≡ false → nat_eq 6 k ≡ false → P k) → (k : ℕ) → P k
 by_number P p0 p1 p2 p3 p4 p5 p6 rest k =
-    elim (cases_Bool (nat_eq 0 k)) [ inl e ↦ rw (← eqb-true 0 k e) p0 | inr n0 ↦
-    elim (cases_Bool (nat_eq 1 k)) [ inl e ↦ rw (← eqb-true 1 k e) p1 | inr n1 ↦
-    elim (cases_Bool (nat_eq 2 k)) [ inl e ↦ rw (← eqb-true 2 k e) p2 | inr n2 ↦
-    elim (cases_Bool (nat_eq 3 k)) [ inl e ↦ rw (← eqb-true 3 k e) p3 | inr n3 ↦
-    elim (cases_Bool (nat_eq 4 k)) [ inl e ↦ rw (← eqb-true 4 k e) p4 | inr n4 ↦
-    elim (cases_Bool (nat_eq 5 k)) [ inl e ↦ rw (← eqb-true 5 k e) p5 | inr n5 ↦
-    elim (cases_Bool (nat_eq 6 k)) [ inl e ↦ rw (← eqb-true 6 k e) p6 | inr n6 ↦ rest k n0 n1 n2 n3 n4 n5 n6 ] ] ] ] ] ] ]
+    elim (cases_Bool (nat_eq 0 k)) [
+      | inl e ↦ rw (← eqb-true 0 k e) p0
+      | inr n0 ↦
+          elim (cases_Bool (nat_eq 1 k)) [
+            | inl e ↦ rw (← eqb-true 1 k e) p1
+            | inr n1 ↦
+                elim (cases_Bool (nat_eq 2 k)) [
+                  | inl e ↦ rw (← eqb-true 2 k e) p2
+                  | inr n2 ↦
+                      elim (cases_Bool (nat_eq 3 k)) [
+                        | inl e ↦ rw (← eqb-true 3 k e) p3
+                        | inr n3 ↦
+                            elim (cases_Bool (nat_eq 4 k)) [
+                              | inl e ↦ rw (← eqb-true 4 k e) p4
+                              | inr n4 ↦
+                                  elim (cases_Bool (nat_eq 5 k)) [
+                                    | inl e ↦ rw (← eqb-true 5 k e) p5
+                                    | inr n5 ↦
+                                        elim (cases_Bool (nat_eq 6 k)) [ inl e ↦ rw (← eqb-true 6 k e) p6 | inr n6 ↦ rest k n0 n1 n2 n3 n4 n5 n6 ]
+                                  ]
+                            ]
+                      ]
+                ]
+          ]
+    ]
 
 -- what holds of the members of a list holds of each
 each_of : (P : ℕ → Type 0) (xs : List ℕ) (k : ℕ) → has nat_eq xs k ≡ true → AllByRecursion P xs → P k
@@ -154,5 +172,5 @@ turn_taints = (
     along = λ k u made. each_of (Spreads u) (0 ∷ 1 ∷ 2 ∷ 3 ∷ 4 ∷ 5 ∷ []) k made (untainted 0 0 u refl, (untainted 1 1 u refl, ((λ _ _. refl), ((λ _ _. refl), ((λ _ _. refl), ((λ _ _. refl), tt))))));
   },
   λ other closed u tainted. each_of (λ v. other v ≡ true) (2 ∷ 3 ∷ 4 ∷ []) u (tainted_three (nat_eq 2 u) (nat_eq 3 u) (nat_eq 4 u) tainted)
-    (closed.from_gone 3 refl refl, (closed.from_gone 2 refl refl, (closed.along 4 2 refl refl (closed.from_gone 3 refl refl), tt))),
+      (closed.from_gone 3 refl refl, (closed.from_gone 2 refl refl, (closed.along 4 2 refl refl (closed.from_gone 3 refl refl), tt))),
 )

@@ -52,11 +52,7 @@ fn place_of(key: usize) -> usize
     if key == 6 { 2 } else { key }
 }
 
-fn add_row(
-    alloc: Global,
-    rows: &mut Vec<List<usize>>,
-    numbers: &[usize],
-) -> Result<(), AllocError>
+fn add_row(alloc: Global, rows: &mut Vec<List<usize>>, numbers: &[usize]) -> Result<(), AllocError>
     ensures { OnOk result (rows.new.items ≡ rows.old.items ++ numbers.now ∷ []) }
 {
     rows.push(listed(alloc, numbers)?)?;
@@ -141,11 +137,19 @@ impl System for Moving {
     ghost is_reserved = { λ _ _. ⊤ };
 
     fn unknowns(&self) -> &List<usize> {
-        if self.turned { &self.rows[14] } else { &self.rows[13] }
+        if self.turned {
+            &self.rows[14]
+        } else {
+            &self.rows[13]
+        }
     }
 
     fn keys(&self) -> &List<usize> {
-        if self.turned { &self.rows[16] } else { &self.rows[15] }
+        if self.turned {
+            &self.rows[16]
+        } else {
+            &self.rows[15]
+        }
     }
 
     fn lattice(&self, unknown: usize) -> &Pairs {
@@ -167,7 +171,11 @@ impl System for Moving {
         } else if unknown == 1 {
             &self.rows[2]
         } else if unknown == 2 {
-            if turned { &self.rows[10] } else { &self.rows[5] }
+            if turned {
+                &self.rows[10]
+            } else {
+                &self.rows[5]
+            }
         } else if unknown == 3 {
             &self.rows[4]
         } else if unknown == 4 {
@@ -184,7 +192,11 @@ impl System for Moving {
         } else if unknown == 1 {
             &self.rows[1]
         } else if unknown == 2 {
-            if turned { &self.rows[11] } else { &self.rows[12] }
+            if turned {
+                &self.rows[11]
+            } else {
+                &self.rows[12]
+            }
         } else if unknown == 3 {
             &self.rows[3]
         } else if unknown == 4 {
@@ -215,19 +227,35 @@ impl System for Moving {
     }
 
     fn gone<'a>(&'a self, edit: &'a Turn) -> &'a List<usize> {
-        if edit.back { &self.rows[7] } else { &self.rows[9] }
+        if edit.back {
+            &self.rows[7]
+        } else {
+            &self.rows[9]
+        }
     }
 
     fn added<'a>(&'a self, edit: &'a Turn) -> &'a List<usize> {
-        if edit.back { &self.rows[9] } else { &self.rows[7] }
+        if edit.back {
+            &self.rows[9]
+        } else {
+            &self.rows[7]
+        }
     }
 
     fn gone_unknowns<'a>(&'a self, edit: &'a Turn) -> &'a List<usize> {
-        if edit.back { &self.rows[6] } else { &self.rows[4] }
+        if edit.back {
+            &self.rows[6]
+        } else {
+            &self.rows[4]
+        }
     }
 
     fn added_unknowns<'a>(&'a self, edit: &'a Turn) -> &'a List<usize> {
-        if edit.back { &self.rows[4] } else { &self.rows[6] }
+        if edit.back {
+            &self.rows[4]
+        } else {
+            &self.rows[6]
+        }
     }
 
     fn fresh(
@@ -269,7 +297,11 @@ impl System for Moving {
 
 /// A number as a digit.
 fn digit(number: usize) -> u8 {
-    if number < 10 { b'0' + number as u8 } else { b'+' }
+    if number < 10 {
+        b'0' + number as u8
+    } else {
+        b'+'
+    }
 }
 
 /// A value as a byte: no value, no number in it, the number 0, the number 1, or both.

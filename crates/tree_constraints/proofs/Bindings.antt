@@ -1,27 +1,19 @@
 -- A pattern that matches in a tree binds its variables to elements of the tree.
-use Rattle.std.proofs.Common.{◌≡◌, ℕ, suc, ◌+◌, Bool, true, false, cond, List, [], ◌∷◌, ◌++◌, map, Option, Some, None, refl, sym, ap, subst, ◌∙◌, arith}
-use Rattle.std.specs.Prelude.{IsTrue, slice_get, option_map, option_and_then}
-use Rattle.std.specs.List.{AllZip, flat_map}
+use Rattle.std.proofs.Common.{◌≡◌, ℕ, List, [], ◌∷◌, ◌++◌, Option, Some, None, refl, ap, ◌∙◌}
+use Rattle.std.specs.Prelude.{IsTrue, slice_get, option_and_then}
+use Rattle.std.specs.List.{AllZip}
 use Rattle.std.proofs.lemmas.Option.{same_Some}
-use Rattle.flow_term.specs.declared.elem.Elem.TheVariants as elem
 use Rattle.flow_term.specs.declared.term.Term.{Term}
 use Rattle.flow_term.specs.declared.value.Bound.{Bound}
 use Rattle.flow_term.specs.Trees.{At, children}
-use Rattle.flow_syntax.specs.declared.pattern.Pattern.{Pattern, roll-Pattern, ind-Pattern, fold-roll-Pattern}
-use Rattle.flow_syntax.specs.declared.pattern.PatternKind.{PatternKind, PatternKind-F, roll-PatternKind, map-PatternKind, fold-PatternKind, fold-roll-PatternKind}
+use Rattle.flow_syntax.specs.declared.pattern.Pattern.{Pattern}
 use Rattle.flow_syntax.specs.declared.spec.Spec.{Spec}
 use Rattle.flow_syntax.specs.Binders as binders
-use Rattle.flow_syntax.specs.Binders.{bound_in, bound_layer}
-use Rattle.flow_syntax.specs.Types.{name_sort, pos_sort, str_sort, int_sort}
-use Rattle.flow_match.specs.Bindings.{Binding, bindings_at, binding_layer, bind_each, bound, then_bound, if_holds}
+use Rattle.flow_syntax.specs.Binders.{bound_in}
+use Rattle.flow_match.specs.Bindings.{bindings_at}
+use Rattle.flow_match.proofs.EachVariable.{IsOfEach, binds_these}
 use Rattle.tree_constraints.specs.Elements.{is_element}
 use Rattle.tree_constraints.proofs.Members.{position_had, name_had, text_had}
-
-abbrev kind_binding : PatternKind → Binding
-kind_binding = fold-PatternKind Binding Binding binding_layer (λ p. p.kind)
-
-abbrev kind_bound : PatternKind → ℕ → List binders.Bound
-kind_bound = fold-PatternKind (ℕ → List binders.Bound) (List binders.Bound) bound_layer (λ p. p.kind p.place)
 
 -- the child of a position
 itself : (o : Option Term) → option_and_then (λ child. At child []) o ≡ o
@@ -38,93 +30,20 @@ at_child tree (m ∷ path) t n e = by (slice_get (children tree) m) refl e (λ c
     by None is k inner = cc
 
 module _ (spec : Spec) (tree : Term) where
+  abbrev IsElementOf : binders.Bound → Bound → Type 0
+  IsElementOf v b = IsTrue (is_element spec tree v.sort b.value)
+
   abbrev pub AreElements : List binders.Bound → List Bound → Type 0
-  AreElements vs bs = AllZip (λ v b. IsTrue (is_element spec tree v.sort b.value)) vs bs
+  AreElements vs bs = AllZip IsElementOf vs bs
 
-  abbrev Fits : List binders.Bound → Option (List Bound) → Type 0
-  Fits vs o = (bs : List Bound) → o ≡ Some bs → AreElements vs bs
+  each_an_element : IsOfEach IsElementOf (λ t path. At tree path ≡ Some t)
+  each_an_element = record {
+    child = λ t path here n u e. at_child tree path t n here ∙ e;
+    position = λ t path here x at. position_had spec tree path t here;
+    name = λ t path here n e x at. name_had spec tree path t here n e;
+    text = λ t path here s e x at. text_had spec tree path t here s e;
+    number = λ n x at. refl;
+  }
 
-  abbrev pub BindsElements : Pattern → Type 0
-  BindsElements p = (t : Term) (path : List ℕ) → At tree path ≡ Some t → Fits (bound_in p) (bindings_at p t path)
-
-  abbrev FitsKind : PatternKind → Type 0
-  FitsKind k = (at : ℕ) (t : Term) (path : List ℕ) → At tree path ≡ Some t → Fits (kind_bound k at) (kind_binding k t path)
-
-  fits_some : (vs : List binders.Bound) (bs : List Bound) → AreElements vs bs → Fits vs (Some bs)
-  fits_some vs bs h cs e = let same : bs ≡ cs = cc in subst (AreElements vs) same h
-
-  fits_map : {A : Type 0} (vs : List binders.Bound) (f : A → List Bound) (o : Option A) → ((a : A) → o ≡ Some a → AreElements vs (f a)) → Fits vs (option_map f o)
-  fits_map vs f (Some a) h = fits_some vs (f a) (h a refl)
-  fits_map vs f None h = λ bs e. cc
-
-  fits_if : (b : Bool) → Fits [] (if_holds b)
-  fits_if true = fits_some [] [] tt
-  fits_if false = λ bs e. cc
-
-  fits_cond : (vs : List binders.Bound) (b : Bool) (o : Option (List Bound)) → Fits vs o → Fits vs (cond b o None)
-  fits_cond vs true o h = h
-  fits_cond vs false o h = λ bs e. cc
-
-  zip_append : (vs ws : List binders.Bound) (bs cs : List Bound) → AreElements vs bs → AreElements ws cs → AreElements (vs ++ ws) (bs ++ cs)
-  zip_append [] ws [] cs h k = k
-  zip_append [] ws (b ∷ bs) cs h k = absurd h
-  zip_append (v ∷ vs) ws [] cs h k = absurd h
-  zip_append (v ∷ vs) ws (b ∷ bs) cs h k = (h.0, zip_append vs ws bs cs h.1 k)
-
-  fits_then : (vs ws : List binders.Bound) (o q : Option (List Bound)) → Fits vs o → Fits ws q → Fits (vs ++ ws) (then_bound o q)
-  fits_then vs ws (Some bs) (Some cs) h k = fits_some (vs ++ ws) (bs ++ cs) (zip_append vs ws bs cs (h bs refl) (k cs refl))
-  fits_then vs ws (Some bs) None h k = λ ds e. cc
-  fits_then vs ws None q h k = λ ds e. cc
-
-  abbrev Part : Type 0
-  Part = (p : Pattern) × BindsElements p
-
-  abbrev PartKind : Type 0
-  PartKind = (k : PatternKind) × FitsKind k
-
-  -- terms that are children of a position, from this number on
-  abbrev AreChildren : List Term → List ℕ → ℕ → Type 0
-  AreChildren ts path n = (i : ℕ) (u : Term) → slice_get ts i ≡ Some u → At tree (path ++ (n + i) ∷ []) ≡ Some u
-
-  all_children : (t : Term) (path : List ℕ) → At tree path ≡ Some t → AreChildren (children t) path 0
-  all_children t path at i u e = at_child tree path t (0 + i) at ∙ ap (slice_get (children t)) (omega arith) ∙ e
-
-  each : (ps : List Part) (ts : List Term) (path : List ℕ) (n : ℕ) → AreChildren ts path n
-      → Fits (flat_map (λ (vs : List binders.Bound). vs) (map bound_in (map (λ (p : Part). p.0) ps))) (bind_each (map bindings_at (map (λ (p : Part). p.0) ps)) ts path n)
-  each [] [] path n are = fits_some [] [] tt
-  each [] (t ∷ ts) path n are = λ bs e. cc
-  each (p ∷ ps) [] path n are = λ bs e. cc
-  each (p ∷ ps) (t ∷ ts) path n are =
-      let here : At tree (path ++ n ∷ []) ≡ Some t = ap (λ (m : ℕ). At tree (path ++ m ∷ [])) (omega arith) ∙ are 0 t refl in
-      let later : AreChildren ts path (n + 1) = λ i u e. ap (λ (m : ℕ). At tree (path ++ m ∷ [])) (omega arith) ∙ are (suc i) u e in
-      fits_then (bound_in p.0) _ (bindings_at p.0 t (path ++ n ∷ [])) _ (p.1 t (path ++ n ∷ []) here) (each ps ts path (n + 1) later)
-
-  fit_layer : (y : PatternKind-F PartKind Part) (at : ℕ) (t : Term) (path : List ℕ) → At tree path ≡ Some t
-      → Fits (bound_layer (map-PatternKind PatternKind Pattern (ℕ → List binders.Bound) (List binders.Bound) kind_bound bound_in (map-PatternKind PartKind Part PatternKind Pattern (λ k. k.0) (λ p. p.0) y)) at)
-      (binding_layer (map-PatternKind PatternKind Pattern Binding Binding kind_binding bindings_at (map-PatternKind PartKind Part PatternKind Pattern (λ k. k.0) (λ p. p.0) y)) t path)
-  fit_layer PatternKind-F.Wild at t path here = fits_some [] [] tt
-  fit_layer (PatternKind-F.Var x) at t path here = fits_some (binders.bound x pos_sort at ∷ []) (bound x (elem.Pos path)) (position_had spec tree path t here, tt)
-  fit_layer (PatternKind-F.NameVar x) at t path here = fits_map (binders.bound x name_sort at ∷ []) (λ n. bound x (elem.Name n)) _ (λ n e. (name_had spec tree path t here n e, tt))
-  fit_layer (PatternKind-F.StrVar x) at t path here = fits_map (binders.bound x str_sort at ∷ []) (λ s. bound x (elem.Str s)) _ (λ s e. (text_had spec tree path t here s e, tt))
-  fit_layer (PatternKind-F.IntVar x) at t path here = fits_map (binders.bound x int_sort at ∷ []) (λ n. bound x (elem.Int n)) _ (λ n e. (refl, tt))
-  fit_layer (PatternKind-F.IntLit n) at t path here = fits_if _
-  fit_layer (PatternKind-F.StrLit s) at t path here = fits_if _
-  fit_layer (PatternKind-F.Apply c ps) at t path here = fits_cond _ _ _ (each ps (children t) path 0 (all_children t path here))
-  fit_layer (PatternKind-F.Tuple ps) at t path here = fits_cond _ _ _ (each ps (children t) path 0 (all_children t path here))
-  fit_layer (PatternKind-F.Items ps) at t path here = fits_cond _ _ _ (each ps (children t) path 0 (all_children t path here))
-  fit_layer (PatternKind-F.Held x p) at t path here = fits_map (binders.bound x pos_sort at ∷ bound_in p.0) (λ bs. bound x (elem.Pos path) ++ bs) (bindings_at p.0 t path) (λ bs e. (position_had spec tree path t here, p.1 t path here bs e))
-
-  fit_kind : (y : PatternKind-F PartKind Part) → FitsKind (roll-PatternKind (map-PatternKind PartKind Part PatternKind Pattern (λ k. k.0) (λ p. p.0) y))
-  fit_kind y at t path here =
-      let d = map-PatternKind PartKind Part PatternKind Pattern (λ k. k.0) (λ p. p.0) y in
-      subst (λ (v : ℕ → List binders.Bound). Fits (v at) (kind_binding (roll-PatternKind d) t path)) (sym (fold-roll-PatternKind (ℕ → List binders.Bound) (List binders.Bound) bound_layer (λ p. p.kind p.place) d))
-      (subst (λ (b : Binding). Fits (bound_layer (map-PatternKind PatternKind Pattern (ℕ → List binders.Bound) (List binders.Bound) kind_bound bound_in d) at) (b t path)) (sym (fold-roll-PatternKind Binding Binding binding_layer (λ p. p.kind) d)) (fit_layer y at t path here))
-
-  fit_placed : (n : _) (k : PatternKind) → FitsKind k → BindsElements (roll-Pattern (record { place = n; kind = k }))
-  fit_placed n k h t path here =
-      subst (λ (vs : List binders.Bound). Fits vs (bindings_at (roll-Pattern (record { place = n; kind = k })) t path)) (sym (fold-roll-Pattern (ℕ → List binders.Bound) (List binders.Bound) bound_layer (λ p. p.kind p.place) (record { place = n; kind = k })))
-      (subst (λ (b : Binding). Fits (kind_bound k n) (b t path)) (sym (fold-roll-Pattern Binding Binding binding_layer (λ p. p.kind) (record { place = n; kind = k }))) (h n t path here))
-
-  pub binds_elements : (p : Pattern) → BindsElements p
-  binds_elements =
-      ind-Pattern FitsKind BindsElements (λ x y e. subst (λ d. FitsKind (roll-PatternKind d)) e (fit_kind y)) (λ x y e. subst (λ d. BindsElements (roll-Pattern d)) e (fit_placed y.place y.kind.0 y.kind.1))
+  pub binds_elements : (p : Pattern) (t : Term) (path : List ℕ) → At tree path ≡ Some t → (bs : List Bound) → bindings_at p t path ≡ Some bs → AreElements (bound_in p) bs
+  binds_elements p = binds_these IsElementOf (λ t path. At tree path ≡ Some t) each_an_element p

@@ -15,6 +15,7 @@ use Rattle.flow_syntax.specs.declared.property.PropRule.{PropRule}
 use Rattle.flow_syntax.specs.declared.spec.Spec.{Spec}
 use Rattle.flow_syntax.specs.DeclFaults.{direction_of}
 use Rattle.flow_syntax.specs.Graph.{IsEdge, IsNode}
+use Rattle.flow_syntax.proofs.LinkEnds.{edge_leaves_node, edge_reaches_node}
 use Rattle.typed_bodies.specs.Anywhere.{reads_at}
 use Rattle.list_theory.specs.Lists.{has, distinct}
 use Rattle.tree_constraints.specs.declared.constraint.Constraint.{Constraint}
@@ -23,7 +24,6 @@ use Rattle.tree_constraints.specs.Constraints.{arrives, comes, unknown_at, IsUnk
 use Rattle.tree_constraints.specs.Laws.{KeysAreOwn, ConstraintsAreOne, UnknownsAreOne}
 use Rattle.tree_constraints.specs.Orders.{by_parts, constraint_cmp, unknown_cmp}
 use Rattle.tree_constraints.specs.Solutions.{AreConstraints, AreUnknowns}
-use Rattle.tree_constraints.proofs.Ends.{edge_leaves_node, edge_reaches_node}
 use Rattle.tree_constraints.proofs.Exact.{parts_tell, unknown_ties, unknown_flips, key_ties, key_flips}
 use Rattle.tree_constraints.proofs.Lists.{none_in_nil, at_head, in_tail, cons_cases, filter_has, map_has, map_from, same_lists, has_from, contains_from, distinct_sorted}
 

@@ -1,6 +1,5 @@
 pub mod Applied
 pub mod Bindings
-pub mod Ends
 pub mod Exact
 pub mod Facts
 pub mod Given

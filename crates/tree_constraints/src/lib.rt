@@ -13,5 +13,6 @@ pub use constraint::{Constraint, Key, Origin};
 pub use laws::{
     bindings_are_elements, bounds_are_within, constraints_are_one, constraints_keep_to_elements,
     included_are_no_more, keys_are_own, parts_tell, paths_are_positions, replays_are_solutions,
-    solutions_are_one, systems_are_lawful, systems_are_monotone, trees_are_lawful, unknowns_are_one,
+    solutions_are_one, systems_are_lawful, systems_are_monotone, trees_are_lawful,
+    unknowns_are_one,
 };

@@ -1,7 +1,6 @@
--- When the tables of a domain keep the laws of lattices, and types that name no table.
+-- When the tables of a domain keep the laws of lattices, and lattices without a table.
 use Rattle.std.specs.Prelude.{IsTrue, ⊤}
-use Rattle.flow_syntax.specs.declared.types.LatticeType.{LatticeType}
-use Rattle.flow_syntax.specs.Types.{Lattice, lattice_of}
+use Rattle.flow_syntax.specs.Types.{Lattice}
 use Rattle.flow_syntax.specs.Types as typed
 use Rattle.lattice_base.specs.Laws.{JoinLaws}
 use Rattle.value_domains.specs.Domains.{Domain, map_to, pair_of, listed, Table, has_element, table_join}
@@ -23,7 +22,3 @@ HasNoTable (typed.map_to sort values) = HasNoTable values
 HasNoTable (typed.pair_of left right) = HasNoTable left × HasNoTable right
 HasNoTable (typed.table name) = ⊥
 HasNoTable _ = ⊤
-
--- the type names no declared lattice
-abbrev pub NamesNoTable : LatticeType → Type 0
-NamesNoTable type = HasNoTable (lattice_of type)

@@ -1,6 +1,7 @@
 use Rattle.std.proofs.Common.{◌≡◌, sym, ap, ◌∙◌}
 use Rattle.flow_syntax.specs.Graph.{IsInner, point_of}
-use Rattle.flow_links.proofs.EndLemmas.{inner_is_no_node, point_of_injective}
+use Rattle.flow_syntax.proofs.LinkEnds.{inner_is_no_node}
+use Rattle.flow_links.proofs.EndLemmas.{point_of_injective}
 use Rattle.flow_term.proofs.Outcomes.{on_ok}
 use Rattle.flow_links.proofs.SetLemmas.{Gains-same, Gains-none}
 use Rattle.flow_links.proofs.nodes.add_node.Goals as goal

@@ -1,6 +1,6 @@
 use Rattle.std.proofs.Common.{sym, ap, ◌∙◌}
 use Rattle.lattice_any.specs.declared.any.AnyL.TheVariants as any
-use Rattle.lattice_any.proofs.AtTypes.{must_answer, flat_answer, may_rising, may_joined, must_rising, map_entries, map_joined, some_pair, left_valid, right_valid, pair_joined}
+use Rattle.lattice_any.proofs.AtTypes.{item_listed, must_answer, flat_answer, some_item, table_joined, may_rising, may_joined, must_rising, map_entries, map_joined, some_pair, left_valid, right_valid, pair_joined}
 use Rattle.lattice_any.proofs.Depths.{map_falls, left_falls, right_falls}
 use Rattle.lattice_any.proofs.Steps.{rest_passed, less_step, equal_step, greater_step, left_ended, right_ended}
 use Rattle.value_domains.specs.Domains.{IsValueOf, least_of, joined_of}
@@ -60,6 +60,21 @@ join_values-returns-in_ok-new-in-Pair-2 t c =
     let e = c.in-Pair.is ∙ ap (λ l. any.Pair l c.in-Pair.right) (sym c.get-in-Pair.ensures) ∙ ap (any.Pair c.get-in-Pair.result.now) (sym c.get-in-Pair-2.ensures) in
     pair_joined _ _ _ _ _ _ _ _ _ _ _ e c.parts.ensures.left c.parts.ensures.right c.parts-in-Pair.ensures.left c.parts-in-Pair.ensures.right
     (c.in_ok-new-in-Pair.ensures ∙ c.in_ok-first-in-Pair.ensures) (c.in_ok-new-in-Pair-2.ensures ∙ c.in_ok-second-in-Pair.ensures)
+
+pub join_values-item-requires : goal.join_values-item-requires
+join_values-item-requires t c = some_item _ _ _ c.in-Table.is c.requires.left
+
+pub join_values-item-requires-in-Table : goal.join_values-item-requires-in-Table
+join_values-item-requires-in-Table t c = some_item _ _ _ c.in-Table.is c.requires.right
+
+pub join_values-join-requires-clause-left : goal.join_values-join-requires-clause-left
+join_values-join-requires-clause-left t c = item_listed _ _ _ _ c.in-Table.is c.requires.left c.item.ensures
+
+pub join_values-join-requires-clause-right : goal.join_values-join-requires-clause-right
+join_values-join-requires-clause-right t c = item_listed _ _ _ _ c.in-Table.is c.requires.right c.item-in-Table.ensures
+
+pub join_values-returns-in_ok-duplicate-in-Table : goal.join_values-returns-in_ok-duplicate-in-Table
+join_values-returns-in_ok-duplicate-in-Table t c = table_joined _ _ _ _ _ _ _ _ c.in-Table.is c.item.ensures c.item-in-Table.ensures c.join.ensures c.in_ok-duplicate-in-Table.ensures
 
 pub join_entries-loop-x-preserved-in_ok-push_copy-in-Less :
     goal.join_entries-loop-x-preserved-in_ok-push_copy-in-Less

@@ -1,7 +1,7 @@
 use Rattle.std.proofs.Common.{refl, sym, ap, ◌∙◌}
 use Rattle.flow_term.specs.declared.value.Value.TheVariants as value
 use Rattle.lattice_any.specs.declared.any.AnyL.TheVariants as any
-use Rattle.lattice_any.proofs.Members.{all_taken, map_answer, one_more, may_member, must_member, flat_member, keys_above, keys_below, map_member, no_answer, no_map, pair_member, no_pair}
+use Rattle.lattice_any.proofs.Members.{all_taken, map_answer, one_more, may_member, must_member, flat_member, keys_above, keys_below, map_member, no_answer, no_map, pair_member, no_pair, table_member}
 use Rattle.lattice_any.proofs.Orders.{both_answers, first_answer}
 use Rattle.std.proofs.lemmas.Bool.{both_ways}
 use Rattle.lattice_any.specs.Members.{IsKeptIn}
@@ -40,6 +40,9 @@ is_value-returns-else-is_value t c =
 
 pub is_value-returns-in_default-value : goal.is_value-returns-in_default-value
 is_value-returns-in_default-value t c = no_pair _ _ _ _ c.in-Pair.is c.in_default-value.not-Pair
+
+pub is_value-returns-in-Table : goal.is_value-returns-in-Table
+is_value-returns-in-Table t c = table_member _ _ _ _ c.in-Table.is c.is_listed.ensures
 
 pub is_map-returns-then-keys_have_sort : goal.is_map-returns-then-keys_have_sort
 is_map-returns-then-keys_have_sort t c = elim c.if-keys_rise.branch [

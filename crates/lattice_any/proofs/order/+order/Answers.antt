@@ -2,9 +2,9 @@ use Rattle.std.proofs.Common.{sym, ap, ◌∙◌}
 use Rattle.std.proofs.lemmas.Bool.{both_ways}
 use Rattle.lattice_sets.proofs.MapMerges.{answer_no, answer_yes, iff_then}
 use Rattle.lattice_any.specs.declared.any.AnyL.TheVariants as any
-use Rattle.lattice_any.proofs.AtTypes.{may_rising, must_rising, map_entries, some_pair, left_valid, right_valid}
+use Rattle.lattice_any.proofs.AtTypes.{item_listed, may_rising, must_rising, map_entries, some_item, some_pair, left_valid, right_valid}
 use Rattle.lattice_any.proofs.Depths.{map_falls, left_falls, right_falls}
-use Rattle.lattice_any.proofs.Orders.{may_below, must_below, flat_below, map_below, pair_below, both_answers, first_answer}
+use Rattle.lattice_any.proofs.Orders.{may_below, must_below, flat_below, map_below, pair_below, table_below, both_answers, first_answer}
 use Rattle.lattice_any.proofs.Steps.{rest_passed, below_less, above_at_key, below_at_key, below_past, below_at_end}
 use Rattle.value_domains.specs.Domains.{IsValueOf, least_of, joined_of}
 use Rattle.lattice_any.specs.Types.{domain_of_any}
@@ -43,6 +43,21 @@ pub is_below-is_below-requires-then-is_below : goal.is_below-is_below-requires-t
 is_below-is_below-requires-then-is_below t c =
     let e = c.in-Pair.is ∙ ap (any.Pair c.in-Pair.left) (sym c.get-then-is_below.ensures) in
     (right_falls _ _ _ t e c.decreases, (right_valid _ _ _ _ _ e c.requires.left c.parts.ensures.right, right_valid _ _ _ _ _ e c.requires.right c.parts-in-Pair.ensures.right))
+
+pub is_below-item-requires : goal.is_below-item-requires
+is_below-item-requires t c = some_item _ _ _ c.in-Table.is c.requires.left
+
+pub is_below-item-requires-in-Table : goal.is_below-item-requires-in-Table
+is_below-item-requires-in-Table t c = some_item _ _ _ c.in-Table.is c.requires.right
+
+pub is_below-is_below-requires-in-Table-clause-left : goal.is_below-is_below-requires-in-Table-clause-left
+is_below-is_below-requires-in-Table-clause-left t c = item_listed _ _ _ _ c.in-Table.is c.requires.left c.item.ensures
+
+pub is_below-is_below-requires-in-Table-clause-right : goal.is_below-is_below-requires-in-Table-clause-right
+is_below-is_below-requires-in-Table-clause-right t c = item_listed _ _ _ _ c.in-Table.is c.requires.right c.item-in-Table.ensures
+
+pub is_below-returns-in-Table : goal.is_below-returns-in-Table
+is_below-returns-in-Table t c = table_below _ _ _ c.requires.left c.requires.right _ _ _ _ c.in-Table.is c.item.ensures c.item-in-Table.ensures c.is_below-in-Table.ensures
 
 pub is_below-returns-in-May : goal.is_below-returns-in-May
 is_below-returns-in-May t c = may_below _ _ _ c.requires.left c.requires.right _ _ _ _ c.in-May.is c.elems.ensures c.elems-in-May.ensures c.includes.ensures

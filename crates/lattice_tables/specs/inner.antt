@@ -1,0 +1,5 @@
+pub mod Disorders
+pub mod Faults
+pub mod Shown
+pub mod Tests
+pub mod Tuples
