@@ -13,14 +13,14 @@ use Rattle.flow_syntax.specs.declared.spec.Spec.{Spec}
 use Rattle.flow_syntax.specs.Expressions.{ExprLayer, expr_layer}
 use Rattle.flow_syntax.specs.Types.{Sort, truth, any_flat, any_set}
 use Rattle.flow_syntax.specs.Scopes.{Scope, with_variable}
-use Rattle.flow_syntax.specs.Inferred.{Inferred, is as inferred_as, not_inferable, inferred, inferred_parts, form_inferred, set_sort, flat_sort}
+use Rattle.flow_syntax.specs.Inferred.{Inferred, is as inferred_as, not_inferable, function_named, inferred, inferred_parts, form_inferred, set_sort, flat_sort}
 use Rattle.flow_syntax.specs.Expected.{Expected, inferred_in, known_sort, expected_source, expected_element, expected_key, expected_value, expected_same}
-use Rattle.flow_syntax.specs.Occurrences.{Occurrence, occurrence, parts_in, expected_truth, chosen_sort, optional}
-use Rattle.flow_syntax.proofs.ExprLayers.{layer_of_int, layer_of_str, layer_of_truth, layer_of_bottom, layer_of_top, layer_of_unreached, layer_of_ident, layer_of_read, layer_of_both, layer_of_choose, layer_of_map_of, layer_of_look, layer_of_update, layer_of_set2, layer_of_arith, layer_of_compare, layer_of_member, layer_of_and, layer_of_or, layer_of_bind, layer_of_if}
+use Rattle.flow_syntax.specs.Occurrences.{Occurrence, arguments, declared_arguments, occurrence, parts_in, expected_truth, chosen_sort, optional}
+use Rattle.flow_syntax.proofs.ExprLayers.{layer_of_int, layer_of_str, layer_of_truth, layer_of_bottom, layer_of_top, layer_of_unreached, layer_of_ident, layer_of_read, layer_of_call, layer_of_both, layer_of_choose, layer_of_map_of, layer_of_look, layer_of_update, layer_of_set2, layer_of_arith, layer_of_compare, layer_of_member, layer_of_and, layer_of_or, layer_of_bind, layer_of_if}
 use Rattle.check_exprs.specs.declared.notes.Notes.{Notes}
 use Rattle.check_exprs.specs.inner.Noted.{IsNoted, AreNoted, IsNotedBefore, noted_types}
 use Rattle.check_exprs.specs.inner.Plans.{expected_first_part, expected_second_part, expected_third_part, leaf_inferred, infer_made, infer_two}
-use Rattle.check_exprs.specs.inner.Checked.{IsChecked, HasCheckedParts}
+use Rattle.check_exprs.specs.inner.Checked.{HasCheckedArguments, HasCheckedParts, IsBind, IsChecked, IsChoose, IsMapOf, IsMember, IsSetOf}
 use Rattle.check_exprs.proofs.Parts.{none_noted, part_ahead, part_noted, part_noted_then, parts_noted}
 
 -- A layer has no parts.
@@ -111,6 +111,27 @@ three_of k a b c x y z p q r is =
     by (inl h) = three_update k a b c h
     by (inr h) = three_if k a b c h
 
+module _ (e : Expr) where
+  -- the forms of listed elements
+  pub listed_form : ((es : List Expr) × ((out-Expr e).kind ≡ exprs.SetOf es)) ⊎ ((ks : List Expr) × (vs : List Expr) × ((out-Expr e).kind ≡ exprs.MapOf ks vs)) → IsSetOf e ⊎ IsMapOf e
+  listed_form (inl h) = inl (record { elements = h.0; is = h.1 })
+  listed_form (inr h) = inr (record { keys = h.0; values = h.1; is = h.2 })
+
+  -- the forms over elements
+  pub over_elements : ((a : Expr) × (s : Expr) × ((out-Expr e).kind ≡ exprs.Member a s))
+      ⊎ (((a : Expr) × (x : List ℕ) × (s : Expr) × (c : Option Expr) × ((out-Expr e).kind ≡ exprs.Choose a x s c)) ⊎ ((x : List ℕ) × (a : Expr) × (b : Expr) × ((out-Expr e).kind ≡ exprs.Bind x a b)))
+      → IsMember e ⊎ (IsChoose e ⊎ IsBind e)
+  over_elements (inl h) = inl (record { element = h.0; set = h.1; is = h.2 })
+  over_elements (inr (inl h)) = inr (inl (record { element = h.0; name = h.1; set = h.2; condition = h.3; is = h.4 }))
+  over_elements (inr (inr h)) = inr (inr (record { name = h.0; flat = h.1; body = h.2; is = h.3 }))
+
+  -- and the last of them, where it is none of the others
+  pub bind_left : IsMember e ⊎ (IsChoose e ⊎ IsBind e) → ((a s : Expr) → (out-Expr e).kind ≡ exprs.Member a s → ⊥)
+      → ((a : Expr) (x : List ℕ) (s : Expr) (c : Option Expr) → (out-Expr e).kind ≡ exprs.Choose a x s c → ⊥) → IsBind e
+  bind_left (inl h) not_member not_choose = absurd (not_member h.element h.set h.is)
+  bind_left (inr (inl h)) not_member not_choose = absurd (not_choose h.element h.name h.set h.condition h.is)
+  bind_left (inr (inr h)) not_member not_choose = h
+
 layer_of : (k : ExprKind) (layer : ExprLayer) → out-ExprKind k ≡ layer → k ≡ roll-ExprKind layer
 layer_of k layer e = sym (roll-out-ExprKind k) ∙ ap roll-ExprKind e
 
@@ -188,6 +209,11 @@ module _ (spec : Spec) (s : Scope) (w : Expected) (e : Expr) where
 
   each_as : {o n : Notes} (v x : Expected) (es : List Expr) → v ≡ x → AreNoted spec (map (occurrence s v) es) o n → AreNoted spec (map (occurrence s x) es) o n
   each_as {o} {n} v x es same g = subst (λ (y : Expected). AreNoted spec (map (occurrence s y) es) o n) same g
+
+  pub checked_call : {o n : Notes} (f : List ℕ) (es given : List Expr) (answer : Inferred) → (out-Expr e).kind ≡ exprs.Call f es → given ≡ es → HasCheckedArguments spec s f given o n answer → HasCheckedParts spec (occurrence s w e) o n answer
+  checked_call {o} {n} f es given answer is are h =
+      checked_at (ExprKind-F.Call f es) answer (ap out-ExprKind is ∙ layer_of_call f es)
+      (subst (λ (xs : List Expr). AreNoted spec (arguments s (declared_arguments (function_named spec f)) xs) o n) are h.noted) h.infers
 
   pub checked_map_of : {o m n : Notes} (ks vs : List Expr) (v x : Expected) → (out-Expr e).kind ≡ exprs.MapOf ks vs → v ≡ expected_key w → AreNoted spec (map (occurrence s v) ks) o m → x ≡ expected_value w
       → AreNoted spec (map (occurrence s x) vs) m n → HasCheckedParts spec (occurrence s w e) o n not_inferable

@@ -149,7 +149,7 @@ fn inferred_truth() -> Inferred
 }
 
 /// What a form without parts gives.
-pub fn tell_leaf(
+pub fn infer_leaf(
     cx: &Context<'_>,
     scope: &Scope<'_>,
     kind: &ExprKind,

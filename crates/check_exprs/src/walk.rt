@@ -1,5 +1,5 @@
 //! The walk over an expression: notes each fault in it, lists the type of each part, and answers what is inferred of its own.
-ghost use Rattle.std.specs.Prelude.{◌≡◌, ◌≤◌, IfOk, OnOk, length, map};
+ghost use Rattle.std.specs.Prelude.{◌≡◌, ◌≤◌, ◌⊎◌, IfOk, OnOk, length, map};
 ghost use Rattle.std.specs.Option.{option_copied};
 ghost use Rattle.flow_syntax.specs.declared.expr.ExprKind.{out-ExprKind};
 ghost use Rattle.flow_syntax.specs.Scopes.{with_variable};
@@ -7,14 +7,15 @@ ghost use Rattle.flow_syntax.specs.Inferred.{function_named, is, not_inferable};
 ghost use Rattle.flow_syntax.specs.Types.{truth};
 ghost use Rattle.flow_syntax.specs.Occurrences.{arguments, declared_arguments, optional, occurrence};
 ghost use Rattle.check_base.specs.Tables.{AreNames};
-ghost use Rattle.check_exprs.specs.inner.Checked.{HasCheckedParts, IsBind, IsChecked, IsChoose, IsMember};
+ghost use Rattle.check_exprs.specs.inner.Checked.{HasCheckedArguments, HasCheckedParts, IsBind, IsChecked, IsChoose, IsMapOf, IsMember, IsSetOf};
 ghost use Rattle.check_exprs.specs.inner.Noted.{AreNoted, IsNoted, IsNotedBefore, noted_types};
 ghost use Rattle.check_exprs.specs.inner.Plans.{expected_argument, expected_first_part, outside, expected_second_part, expected_third_part};
 ghost use Rattle.check_exprs.specs.inner.Scoping.{scope_of};
 ghost use Rattle.expr_typing.specs.Views.{sort_in, inferred_of, expected_of};
 
 use crate::form::{
-    expected_first_part, expected_second_part, expected_third_part, infer_one, infer_two, tell_leaf,
+    expected_first_part, expected_second_part, expected_third_part, infer_leaf, infer_one,
+    infer_two,
 };
 use crate::names::{Context, function_named, result_inferred};
 use crate::notes::{Notes, count, hold_place, listed_type, put_behind, set_type};
@@ -124,28 +125,13 @@ fn check_parts(
     let kind = &expr.kind;
     match kind {
         ExprKind::Int(_) | ExprKind::Str(_) | ExprKind::Truth(_) | ExprKind::Bottom => {
-            tell_leaf(cx, scope, kind)
+            infer_leaf(cx, scope, kind)
         }
         ExprKind::Top | ExprKind::Unreached | ExprKind::Ident(_) | ExprKind::Read(_, _) => {
-            tell_leaf(cx, scope, kind)
+            infer_leaf(cx, scope, kind)
         }
-        ExprKind::Call(name, given) => {
-            let declared = declared_arguments(cx, name);
-            note_arguments(given.as_slice(), cx, scope, declared, notes)?;
-            result_inferred(cx, name)
-        }
-        ExprKind::SetOf(elements) => {
-            let expected_type = expected_element(cx.alloc, expected)?;
-            note_each(elements.as_slice(), cx, scope, &expected_type, notes)?;
-            Ok(Inferred::NotInferable)
-        }
-        ExprKind::MapOf(keys, values) => {
-            let expected_type = expected_key(cx.alloc, expected)?;
-            note_each(keys.as_slice(), cx, scope, &expected_type, notes)?;
-            let expected_type = expected_value(cx.alloc, expected)?;
-            note_each(values.as_slice(), cx, scope, &expected_type, notes)?;
-            Ok(Inferred::NotInferable)
-        }
+        ExprKind::Call(name, given) => check_call(name, given.as_slice(), cx, scope, notes),
+        ExprKind::SetOf(_) | ExprKind::MapOf(_, _) => check_list(expr, cx, scope, expected, notes),
         ExprKind::MakeFlat(a)
         | ExprKind::Fst(a)
         | ExprKind::Snd(a)
@@ -171,17 +157,8 @@ fn check_parts(
             note_third(c.get(), cx, scope, kind, expected, &first, notes)?;
             infer_two(cx.alloc, kind, first, &second)
         }
-        ExprKind::Member(_, _) => {
-            note_member(expr, cx, scope, expected, notes)?;
-            Ok(Inferred::Is(ExprType::Truth))
-        }
-        ExprKind::Choose(_, _, _, _) => {
-            note_choose(expr, cx, scope, expected, notes)?;
-            Ok(Inferred::NotInferable)
-        }
-        ExprKind::Bind(_, _, _) => {
-            note_bind(expr, cx, scope, expected, notes)?;
-            Ok(Inferred::NotInferable)
+        ExprKind::Member(_, _) | ExprKind::Choose(_, _, _, _) | ExprKind::Bind(_, _, _) => {
+            check_over_elements(expr, cx, scope, expected, notes)
         }
     }
 }
@@ -255,6 +232,36 @@ fn note_third(
 {
     let expected_type = expected_third_part(cx.alloc, kind, expected, inferred)?;
     note(part, cx, scope, &expected_type, notes)
+}
+
+/// Checks the parts of a form over the elements of a set or of a flat value: what is inferred of that one gives what is expected of the others or
+/// the sort of a variable in them.
+#[cycle(check)]
+fn check_over_elements(
+    expr: &Expr,
+    cx: &Context<'_>,
+    scope: &Scope<'_>,
+    expected: &Expected,
+    notes: &mut Notes,
+) -> Result<Inferred, AllocError>
+    requires names { AreNames cx.now.spec.now cx.now.names.now }
+    requires form { IsMember expr.now ⊎ (IsChoose expr.now ⊎ IsBind expr.now) }
+    ensures { IfOk result (λ t. HasCheckedParts cx.now.spec.now (occurrence (scope_of scope.now) (expected_of expected.now) expr.now) notes.old notes.new (inferred_of t)) }
+{
+    match &expr.kind {
+        ExprKind::Member(_, _) => {
+            note_member(expr, cx, scope, expected, notes)?;
+            Ok(Inferred::Is(ExprType::Truth))
+        }
+        ExprKind::Choose(_, _, _, _) => {
+            note_choose(expr, cx, scope, expected, notes)?;
+            Ok(Inferred::NotInferable)
+        }
+        _ => {
+            note_bind(expr, cx, scope, expected, notes)?;
+            Ok(Inferred::NotInferable)
+        }
+    }
 }
 
 /// Notes the faults of the parts of the question whether an element is in a set, and lists their types. What is expected of the element is inferred
@@ -387,6 +394,51 @@ fn note_bind(
     note_second(body.get(), cx, &inner, kind, expected, &inferred, notes)
 }
 
+/// Checks the elements of a set, or the keys and values of a map.
+#[cycle(check)]
+fn check_list(
+    expr: &Expr,
+    cx: &Context<'_>,
+    scope: &Scope<'_>,
+    expected: &Expected,
+    notes: &mut Notes,
+) -> Result<Inferred, AllocError>
+    requires names { AreNames cx.now.spec.now cx.now.names.now }
+    requires form { IsSetOf expr.now ⊎ IsMapOf expr.now }
+    ensures { IfOk result (λ t. HasCheckedParts cx.now.spec.now (occurrence (scope_of scope.now) (expected_of expected.now) expr.now) notes.old notes.new (inferred_of t)) }
+{
+    match &expr.kind {
+        ExprKind::SetOf(elements) => {
+            let expected_type = expected_element(cx.alloc, expected)?;
+            note_expecting(elements.as_slice(), cx, scope, expected_type, notes)?;
+            Ok(Inferred::NotInferable)
+        }
+        ExprKind::MapOf(keys, values) => {
+            let expected_type = expected_key(cx.alloc, expected)?;
+            note_expecting(keys.as_slice(), cx, scope, expected_type, notes)?;
+            let expected_type = expected_value(cx.alloc, expected)?;
+            note_expecting(values.as_slice(), cx, scope, expected_type, notes)?;
+            Ok(Inferred::NotInferable)
+        }
+        _ => unreachable!(),
+    }
+}
+
+/// Notes the faults and types of expressions of which the same is expected, and lets go of what is expected.
+#[cycle(check)]
+fn note_expecting(
+    exprs: &[Expr],
+    cx: &Context<'_>,
+    scope: &Scope<'_>,
+    expected: Expected,
+    notes: &mut Notes,
+) -> Result<(), AllocError>
+    requires { AreNames cx.now.spec.now cx.now.names.now }
+    ensures { OnOk result (AreNoted cx.now.spec.now (map (occurrence (scope_of scope.now) (expected_of expected)) exprs.now) notes.old notes.new) }
+{
+    note_each(exprs, cx, scope, &expected, notes)
+}
+
 /// Notes the faults and types of expressions of which the same is expected.
 #[cycle(check)]
 fn note_each(
@@ -403,6 +455,23 @@ fn note_each(
         note(expr, cx, scope, expected, notes)?;
     }
     Ok(())
+}
+
+/// Notes the faults and types of the arguments of a call, and answers the type of what the function of this name gives.
+#[cycle(check)]
+fn check_call(
+    name: &Text,
+    given: &[Expr],
+    cx: &Context<'_>,
+    scope: &Scope<'_>,
+    notes: &mut Notes,
+) -> Result<Inferred, AllocError>
+    requires { AreNames cx.now.spec.now cx.now.names.now }
+    ensures { IfOk result (λ t. HasCheckedArguments cx.now.spec.now (scope_of scope.now) name.now given.now notes.old notes.new (inferred_of t)) }
+{
+    let declared = declared_arguments(cx, name);
+    note_arguments(given, cx, scope, declared, notes)?;
+    result_inferred(cx, name)
 }
 
 /// Notes the faults and types of an argument of a call, of which this lattice is declared.

@@ -3,8 +3,9 @@ use Rattle.std.specs.Prelude.{◌≡◌, ℕ, List, Option}
 use Rattle.flow_syntax.specs.declared.expr.Expr.{Expr, out-Expr}
 use Rattle.flow_syntax.specs.declared.expr.ExprKind.TheVariants as exprs
 use Rattle.flow_syntax.specs.declared.spec.Spec.{Spec}
-use Rattle.flow_syntax.specs.Inferred.{Inferred, inferred}
-use Rattle.flow_syntax.specs.Occurrences.{Occurrence, parts_of}
+use Rattle.flow_syntax.specs.Scopes.{Scope}
+use Rattle.flow_syntax.specs.Inferred.{Inferred, inferred, function_named, result_inferred}
+use Rattle.flow_syntax.specs.Occurrences.{Occurrence, arguments, declared_arguments, parts_of}
 use Rattle.flow_syntax.specs.ExprFaults.{own_inferred}
 use Rattle.check_exprs.specs.declared.notes.Notes.{Notes}
 use Rattle.check_exprs.specs.inner.Noted.{IsNoted, AreNoted}
@@ -18,6 +19,22 @@ pub record IsChecked (spec : Spec) (p : Occurrence) (old new : Notes) (answer : 
 pub record HasCheckedParts (spec : Spec) (p : Occurrence) (old new : Notes) (answer : Inferred) : Type 0 where
   pub noted : AreNoted spec (parts_of spec p) old new
   pub infers : answer ≡ own_inferred spec p
+
+-- The faults of the arguments of a call are noted, their types are listed, and what is answered is the type of what the function gives.
+pub record HasCheckedArguments (spec : Spec) (scope : Scope) (name : List ℕ) (given : List Expr) (old new : Notes) (answer : Inferred) : Type 0 where
+  pub noted : AreNoted spec (arguments scope (declared_arguments (function_named spec name)) given) old new
+  pub infers : answer ≡ result_inferred (function_named spec name)
+
+-- An expression is a set of listed elements.
+pub record IsSetOf (e : Expr) : Type 0 where
+  pub elements : List Expr
+  pub is : (out-Expr e).kind ≡ exprs.SetOf elements
+
+-- An expression is a map of listed keys and values.
+pub record IsMapOf (e : Expr) : Type 0 where
+  pub keys : List Expr
+  pub values : List Expr
+  pub is : (out-Expr e).kind ≡ exprs.MapOf keys values
 
 -- An expression is a set that is chosen from another one.
 pub record IsChoose (e : Expr) : Type 0 where

@@ -1,4 +1,4 @@
-use Rattle.std.proofs.Common.{refl, sym, ap, ◌∙◌}
+use Rattle.std.proofs.Common.{rules, refl, sym, ap, ◌∙◌}
 use Rattle.std.proofs.lemmas.Result.{IfOk-weaker, on_ok_weaker}
 use Rattle.flow_syntax.specs.declared.expr.ExprKind.TheVariants as exprs
 use Rattle.flow_syntax.specs.Scopes.{with_variable}
@@ -7,7 +7,7 @@ use Rattle.check_exprs.specs.inner.Scoping.{scope_of}
 use Rattle.expr_typing.specs.Views.{inferred_of, expected_of}
 use Rattle.check_exprs.proofs.Arguments.{arguments_next, each_next}
 use Rattle.check_exprs.proofs.Finding.{got}
-use Rattle.check_exprs.proofs.Forms.{checked_bind, checked_choose, checked_leaf, checked_map_of, checked_member, checked_three, checked_two, leaf_name, leaf_value, none_there, one_there, three_of, two_of}
+use Rattle.check_exprs.proofs.Forms.{bind_left, checked_bind, checked_call, checked_choose, checked_leaf, checked_map_of, checked_member, checked_three, checked_two, leaf_name, leaf_value, listed_form, none_there, one_there, over_elements, three_of, two_of}
 use Rattle.check_exprs.proofs.Parts.{none_noted, part_before, whole_checked}
 use Rattle.check_exprs.proofs.walk.+check.Goals as goal
 
@@ -53,18 +53,31 @@ note_each-loop-expr-init t c = none_noted c.args.cx.now.spec.now c.args.notes.no
 
 pub check_parts-returns-in-Top : goal.check_parts-returns-in-Top
 check_parts-returns-in-Top t c =
-    IfOk-weaker _ _ _ (λ answer is. checked_leaf c.args.cx.now.spec.now (scope_of c.args.scope.now) (expected_of c.args.expected.now) c.args.expr.now (inferred_of answer) (leaf_name c.args.expr.now.kind c.in-Top.is) is) c.tell_leaf.ensures
+    IfOk-weaker _ _ _ (λ answer is. checked_leaf c.args.cx.now.spec.now (scope_of c.args.scope.now) (expected_of c.args.expected.now) c.args.expr.now (inferred_of answer) (leaf_name c.args.expr.now.kind c.in-Top.is) is) c.infer_leaf.ensures
 
 pub check_parts-returns-in-Int : goal.check_parts-returns-in-Int
 check_parts-returns-in-Int t c =
-    IfOk-weaker _ _ _ (λ answer is. checked_leaf c.args.cx.now.spec.now (scope_of c.args.scope.now) (expected_of c.args.expected.now) c.args.expr.now (inferred_of answer) (leaf_value c.args.expr.now.kind c.in-Int.is) is) c.tell_leaf-in-Int.ensures
+    IfOk-weaker _ _ _ (λ answer is. checked_leaf c.args.cx.now.spec.now (scope_of c.args.scope.now) (expected_of c.args.expected.now) c.args.expr.now (inferred_of answer) (leaf_value c.args.expr.now.kind c.in-Int.is) is) c.infer_leaf-in-Int.ensures
 
-pub check_parts-returns-in_ok-note_each-in-MapOf-2 :
-    goal.check_parts-returns-in_ok-note_each-in-MapOf-2
-check_parts-returns-in_ok-note_each-in-MapOf-2 t c =
+pub check_parts-returns-in-Call : goal.check_parts-returns-in-Call
+check_parts-returns-in-Call t c =
+    IfOk-weaker _ _ _ (λ answer h. checked_call c.args.cx.now.spec.now (scope_of c.args.scope.now) (expected_of c.args.expected.now) c.args.expr.now c.in-Call.name _ _ (inferred_of answer) c.in-Call.is c.as_slice.ensures h) c.check_call.ensures
+
+pub check_parts-check_list-requires : goal.check_parts-check_list-requires
+check_parts-check_list-requires t c = (search rules, (c.requires, listed_form c.args.expr.now c.in-SetOf.is))
+
+pub check_parts-check_over_elements-requires : goal.check_parts-check_over_elements-requires
+check_parts-check_over_elements-requires t c = (search rules, (c.requires, over_elements c.args.expr.now c.in-Member.is))
+
+pub check_over_elements-note_bind-requires : goal.check_over_elements-note_bind-requires
+check_over_elements-note_bind-requires t c = (search rules, (c.requires.names, bind_left c.args.expr.now c.requires.form c.in_default.not-Member c.in_default.not-Choose))
+
+pub check_list-returns-in_ok-note_expecting-in-MapOf-2 :
+    goal.check_list-returns-in_ok-note_expecting-in-MapOf-2
+check_list-returns-in_ok-note_expecting-in-MapOf-2 t c =
     let is = c.in-MapOf.is ∙ ap (λ ks. exprs.MapOf ks c.in-MapOf.values) (sym c.as_slice-in-MapOf.ensures) ∙ ap (exprs.MapOf c.as_slice-in-MapOf.result.now) (sym c.as_slice-in-MapOf-2.ensures) in
-    checked_map_of c.args.cx.now.spec.now (scope_of c.args.scope.now) (expected_of c.args.expected.now) c.args.expr.now _ _ _ _ is c.in_ok-expected_type-in-MapOf.ensures c.in_ok-note_each-in-MapOf.ensures c.in_ok-expected_type-in-MapOf-2.ensures
-    c.in_ok-note_each-in-MapOf-2.ensures
+    checked_map_of c.args.cx.now.spec.now (scope_of c.args.scope.now) (expected_of c.args.expected.now) c.args.expr.now _ _ _ _ is c.in_ok-expected_type-in-MapOf.ensures c.in_ok-note_expecting-in-MapOf.ensures
+    c.in_ok-expected_type-in-MapOf-2.ensures c.in_ok-note_expecting-in-MapOf-2.ensures
 
 pub check_parts-returns-in_ok-note_third-in-Update :
     goal.check_parts-returns-in_ok-note_third-in-Update
