@@ -1,6 +1,6 @@
 -- That the systems for the tests meet the laws.
 use Rattle.std.proofs.Common.{◌≡◌, ℕ, ◌<◌, ◌≤◌, Bool, true, false, cond, not, ◌||◌, ◌↔◌, List, [], ◌∷◌, refl, sym, ap, ◌∙◌, arith, inl, inr}
-use Rattle.std.specs.Prelude.{nat_eq, nat_lt, ⊤}
+use Rattle.std.specs.Prelude.{nat_eq, nat_lt, ◌&&◌, ⊤}
 use Rattle.std.specs.Cmp.{IsStrictWeakOrder}
 use Rattle.std.specs.Ordering.{is_lt, nat_cmp}
 use Rattle.std.specs.declared.cmp.Ordering.TheVariants.{Less, Equal, Greater}
@@ -9,9 +9,10 @@ use Rattle.std.proofs.lemmas.List.MinMax.{IsStrictWeakOrder-by_number}
 use Rattle.std.proofs.lemmas.Bool.{and_from, and_parts, both_ways, cases_Bool, eq-eqb, eqb-true, or_cases, or_left, true≢false}
 use Rattle.list_theory.specs.Lists.{has, distinct}
 use Rattle.lattice_base.specs.Laws.{JoinLaws}
+use Rattle.constraint_theory.specs.Edits.{IsEdit}
 use Rattle.constraint_theory.specs.Systems.{IsLawful, IsOver, numbers}
 use Rattle.flow_solver.specs.Orders.{IsOrderOf}
-use Rattle.solver_examples.specs.Examples.{Pair, bit, climb, climb_transfer, each_reads_one, includes, size, union}
+use Rattle.solver_examples.specs.Examples.{Pair, bit, climb, climb_transfer, each_reads_one, includes, no_change, size, union}
 
 joins : (a b : Pair) → includes a b ≡ true → union a b ≡ b
 joins (false, false) b h = refl
@@ -128,6 +129,36 @@ pair_laws = record {
 pub climb_lawful : IsLawful numbers climb
 climb_lawful = each_lawful (0 ∷ []) (0 ∷ []) (λ _. 0) (λ _. 0) climb_transfer refl (λ k _. refl) (λ k _. refl)
     (λ k a b h. (and_parts (not a.0 || b.0) (not a.1 || b.1) h).0)
+
+all_stay : (b : Bool) → b ≡ ((b && true) || false)
+all_stay true = refl
+all_stay false = refl
+
+none_there : {X : Type 0} → false ≡ true → X
+none_there h = absurd (true≢false (sym h))
+
+-- an edit that changes nothing
+pub climb_kept : IsEdit numbers climb climb no_change
+climb_kept = record {
+  lists = record {
+    keys = λ k. all_stay (has nat_eq (0 ∷ []) k);
+    unknowns = λ u. all_stay (has nat_eq (0 ∷ []) u);
+    keys_new = λ k h. none_there h;
+    unknowns_new = λ u h. none_there h;
+    gone_known = λ k h. none_there h;
+  };
+  target_stays = λ k _. refl;
+  reads_stay = λ k u _ read. and_from (has nat_eq (0 ∷ []) u) true read refl;
+  same_target = λ k _. refl;
+  same_reads = λ k u _. refl;
+  bottom_movable = λ u _. refl;
+  join_movable = λ u a b _ _ _ _ _. refl;
+  eval_movable = λ k a _ _ _. refl;
+  shift_bottom = λ u _. refl;
+  shift_join = λ u a b _ _ _ _ _ _ _. refl;
+  shift_leq = λ u a b _ _ _ _ _ _ _ h. h;
+  shift_eval = λ k a b _ _ _ _ moved. ap (climb_transfer k) (moved 0 refl);
+}
 
 pub climb_over : (u : ℕ) → IsOver climb u (λ _. ⊤) (false, false) union
 climb_over u = record { valid = λ v _. tt; bottom_is = refl; join_is = λ a b _ _. refl }

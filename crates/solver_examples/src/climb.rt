@@ -1,5 +1,5 @@
 //! One unknown that climbs: its bound is met exactly.
-ghost use Rattle.std.specs.Prelude.{◌≡◌, ◌∷◌, ◌<◌, []};
+ghost use Rattle.std.specs.Prelude.{◌≡◌, ◌∷◌, ◌<◌, [], ⊤};
 
 use crate::pairs::{Pairs, listed, steps_of};
 use flow_solver::{Engine, LastPick, SettleRefusal, System, Values, Visited};
@@ -16,21 +16,23 @@ use std::test::Fail;
 struct Climb {
     pairs: Pairs,
     zero: List<usize>,
+    none: List<usize>,
     ghost zero_is: { zero ≡ 0 ∷ [] },
+    ghost none_is: { none ≡ [] },
 }
 
-/// There are no edits of it.
+/// An edit that changes nothing.
 #[derive(Drop)]
-struct NoEdit;
+struct Unchanged;
 
 impl System for Climb {
     ghost use Rattle.std.specs.Ordering.{nat_cmp};
     ghost use Rattle.solver_examples.specs.Examples.{climb, no_change};
-    ghost use Rattle.solver_examples.specs.Laws.{climb_lawful, climb_ordered, climb_over};
+    ghost use Rattle.solver_examples.specs.Laws.{climb_kept, climb_lawful, climb_ordered, climb_over};
 
     type L = Pairs;
 
-    type Edit = NoEdit;
+    type Edit = Unchanged;
 
     ghost meaning = { λ _. climb };
 
@@ -40,11 +42,11 @@ impl System for Climb {
 
     ghost change = { λ _. no_change };
 
-    ghost is_edit = { λ _ _. ⊥ };
+    ghost is_edit = { λ _ _. ⊤ };
 
     ghost next = { λ _ _. climb };
 
-    ghost is_reserved = { λ _ _. ⊥ };
+    ghost is_reserved = { λ _ _. ⊤ };
 
     fn unknowns(&self) -> &List<usize> {
         &self.zero
@@ -90,42 +92,42 @@ impl System for Climb {
         a.cmp(&b)
     }
 
-    fn gone<'a>(&'a self, edit: &'a NoEdit) -> &'a List<usize> {
-        &self.zero
+    fn gone<'a>(&'a self, edit: &'a Unchanged) -> &'a List<usize> {
+        &self.none
     }
 
-    fn added<'a>(&'a self, edit: &'a NoEdit) -> &'a List<usize> {
-        &self.zero
+    fn added<'a>(&'a self, edit: &'a Unchanged) -> &'a List<usize> {
+        &self.none
     }
 
-    fn gone_unknowns<'a>(&'a self, edit: &'a NoEdit) -> &'a List<usize> {
-        &self.zero
+    fn gone_unknowns<'a>(&'a self, edit: &'a Unchanged) -> &'a List<usize> {
+        &self.none
     }
 
-    fn added_unknowns<'a>(&'a self, edit: &'a NoEdit) -> &'a List<usize> {
-        &self.zero
+    fn added_unknowns<'a>(&'a self, edit: &'a Unchanged) -> &'a List<usize> {
+        &self.none
     }
 
     fn fresh(
         &self,
         alloc: Global,
-        edit: &NoEdit,
+        edit: &Unchanged,
         unknown: usize,
     ) -> Result<(bool, bool), AllocError> {
         Ok((false, false))
     }
 
-    fn renamed(&self, edit: &NoEdit) -> bool {
+    fn renamed(&self, edit: &Unchanged) -> bool {
         false
     }
 
-    fn shift(&self, edit: &NoEdit, value: &mut (bool, bool)) {}
+    fn shift(&self, edit: &Unchanged, value: &mut (bool, bool)) {}
 
-    fn reserve(&mut self, edit: &NoEdit) -> Result<(), AllocError> {
+    fn reserve(&mut self, edit: &Unchanged) -> Result<(), AllocError> {
         Ok(())
     }
 
-    fn commit(&mut self, edit: NoEdit) {}
+    fn commit(&mut self, edit: Unchanged) {}
 
     ghost laws = { λ _. climb_lawful };
 
@@ -133,7 +135,7 @@ impl System for Climb {
 
     ghost ordered = { λ _. climb_ordered };
 
-    ghost edits = { λ _ _ never. absurd never };
+    ghost edits = { λ _ _ _. (climb_lawful, climb_kept) };
 }
 
 /// What a climb in three visits shows.
@@ -155,7 +157,13 @@ fn made_climb<C: Ledger>(alloc: Global, blank: Blank) -> Result<Climbed, AllocEr
 {
     let mut steps = Steps::<C>::new(blank);
     let zero = listed(alloc, &[0])?;
-    let mut engine = Engine::new(alloc, Climb { pairs: Pairs, zero }, LastPick)?;
+    let none = listed(alloc, &[])?;
+    let climb = Climb {
+        pairs: Pairs,
+        zero,
+        none,
+    };
+    let mut engine = Engine::new(alloc, climb, LastPick)?;
     let after_two = engine.settle(Some(2), &mut steps);
     let waiting = engine.waiting();
     let last = engine.visit(&mut steps)?;
