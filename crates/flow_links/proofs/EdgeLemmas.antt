@@ -15,7 +15,8 @@ use Rattle.flow_syntax.specs.Graph.{IsEdge, IsInner, IsLink, IsLinked, point_of}
 use Rattle.flow_links.specs.Below.{link}
 use Rattle.flow_links.specs.inner.Gains.{Gains}
 use Rattle.flow_links.specs.inner.Numbers.{IsEdgeBelow, IsEdgeFrom, IsEdgeTo, IsGraphOf, IsLinkAt}
-use Rattle.flow_links.specs.inner.Reach.{IsArrow, Leads, by_arrow, over}
+use Rattle.way_theory.specs.Ways.{by_link, over}
+use Rattle.flow_links.specs.inner.Reach.{IsArrow, Leads}
 use Rattle.flow_syntax.proofs.LinkEnds.{inner_is_no_node}
 use Rattle.flow_links.proofs.EndLemmas.{point_of_injective}
 use Rattle.flow_links.proofs.NumberLemmas.{index_in}
@@ -131,7 +132,7 @@ module _ (spec : Spec) (tree : Term) (links : List Link) (exact : (x : Link) →
   -- a way is a list of links
   way : (j : ℕ) (a : Point) → slice_get points j ≡ Some a → (k : ℕ) (b : Point) → slice_get points k ≡ Some b → Leads points rows j k
       → (inner : List Point) × AllByRecursion IsInner inner × IsLinked spec tree (a ∷ inner ++ b ∷ [])
-  way j a at_j k b at_k (by_arrow to arrow) = ([], tt, (between j k a b at_j at_k arrow, tt))
+  way j a at_j k b at_k (by_link to arrow) = ([], tt, (between j k a b at_j at_k arrow, tt))
   way j a at_j k b at_k (over mid to leads inner arrow) =
       let first : (passed : List Point) × AllByRecursion IsInner passed × IsLinked spec tree (a ∷ passed ++ inner.p ∷ []) = way j a at_j mid inner.p inner.at leads in
       (first.0 ++ inner.p ∷ [], all_on first.0 inner.p first.1 inner.inner, linked_on a first.0 inner.p b first.2 (between mid k inner.p b inner.at at_k arrow))
@@ -152,7 +153,7 @@ module _ (spec : Spec) (tree : Term) (links : List Link) (exact : (x : Link) →
       from_edge h =
           let start : (j : ℕ) × (slice_get points j ≡ Some (point_of e.from)) = index_in points (point_of e.from) (first_numbered h.inner (point_of e.from) (point_of e.to) h.linked) in
           let end : (k : ℕ) × (slice_get points k ≡ Some (point_of e.to)) × Leads points rows start.0 k =
-          follow start.0 h.inner (point_of e.to) start.0 (point_of e.from) start.1 (λ k arrow. by_arrow k arrow) h.passes h.linked in
+          follow start.0 h.inner (point_of e.to) start.0 (point_of e.from) start.1 (λ k arrow. by_link k arrow) h.passes h.linked in
           record {
             j = start.0;
             below = slice_get_within points start.0 (point_of e.from) start.1;

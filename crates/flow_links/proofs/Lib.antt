@@ -2,10 +2,12 @@ pub mod BelowLemmas
 pub mod EdgeLemmas
 pub mod EndLemmas
 pub mod HereLemmas
+pub mod Insertions
 pub mod LinkLists
 pub mod MarkLemmas
 pub mod NumberLemmas
 pub mod Once
 pub mod ReachLemmas
+pub mod Searches
 pub mod SetLemmas
 pub mod SizeLemmas

@@ -22,3 +22,4 @@ pub use edges::plain_edges;
 pub use flow_term::{Link, Point};
 pub use graph::{PlainGraph, plain_graph};
 pub use nodes::plain_nodes;
+pub use rules::argument_number;

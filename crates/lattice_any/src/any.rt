@@ -1,12 +1,12 @@
 //! The lattice of a type.
 ghost use Rattle.std.specs.Prelude.{◌≡◌, ◌↔◌, IsTrue, IfOk};
-ghost use Rattle.value_domains.specs.Domains.{IsValueOf};
+ghost use Rattle.value_domains.specs.Domains.{IsValueOf, least_of};
 ghost use Rattle.lattice_any.specs.Tables.{domain_in};
 ghost use Rattle.lattice_any.specs.Types.{domain_of_any};
 
 use crate::copy::{build_lattice, copy_lattice};
 use crate::join::{join_values, least_value};
-use crate::member::is_value;
+use crate::member::{is_least, is_value};
 use crate::named::NamedTable;
 use crate::order::is_below;
 use crate::same::is_same_value;
@@ -56,6 +56,13 @@ impl AnyL {
         ensures { IsTrue result ↔ IsValueOf (domain_of_any self.now) value.now }
     {
         is_value(self, value)
+    }
+
+    /// Whether the value is the least of the lattice. Takes no memory.
+    pub fn is_least(&self, value: &Value) -> bool
+        ensures { IsTrue result ↔ (value.now ≡ least_of (domain_of_any self.now)) }
+    {
+        is_least(self, value)
     }
 }
 

@@ -127,7 +127,7 @@ fn is_listed(table: &NamedTable, value: &Value) -> bool
 }
 
 /// Whether the value is the least of the lattice.
-fn is_least(lattice: &AnyL, value: &Value) -> bool
+pub(crate) fn is_least(lattice: &AnyL, value: &Value) -> bool
     ensures { IsTrue result ↔ (value.now ≡ least_of (domain_of_any lattice.now)) }
 {
     match lattice {

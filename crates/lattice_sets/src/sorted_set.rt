@@ -61,6 +61,14 @@ impl<E: Element> SortedSet<E> {
         Ok(SortedSet::from_rising(items))
     }
 
+    /// The items in order, as a list. Takes no memory.
+    pub fn into_list(self) -> List<E>
+        ensures items { result ≡ self }
+        ensures rising { IsStrictlySortedBy E.cmp self }
+    {
+        List::from_vec(self.items)
+    }
+
     /// The set of the items of a list that rises strictly.
     pub(crate) fn from_rising(items: List<E>) -> SortedSet<E>
         requires { IsStrictlySortedBy E.cmp items }

@@ -2,6 +2,7 @@
 use Rattle.std.specs.Prelude.{◌≡◌, ℕ, List, [], Some, Contains, slice_get, unwrap_or}
 use Rattle.flow_term.specs.declared.graph.Point.{Point}
 use Rattle.flow_syntax.specs.Graph.{IsInner}
+use Rattle.way_theory.specs.Ways.{Way}
 
 -- the successors of a number, where each row lists those of its own number
 abbrev pub row : List (List ℕ) → ℕ → List ℕ
@@ -17,7 +18,6 @@ pub record IsInnerAt (points : List Point) (k : ℕ) : Type 0 where
   pub at : slice_get points k ≡ Some p
   pub inner : IsInner p
 
--- One or more arrows lead from a number to another, and all numbers between are those of `In` and `Out` points.
-pub data Leads (points : List Point) (rows : List (List ℕ)) (from : ℕ) : ℕ → Type 0 where
-  by_arrow : (to : ℕ) → IsArrow rows from to → Leads points rows from to
-  over : (mid to : ℕ) → Leads points rows from mid → IsInnerAt points mid → IsArrow rows mid to → Leads points rows from to
+-- one or more arrows lead from a number to another, and all numbers between are those of `In` and `Out` points
+abbrev pub Leads : List Point → List (List ℕ) → ℕ → ℕ → Type 0
+Leads points rows = Way (IsInnerAt points) (IsArrow rows)
