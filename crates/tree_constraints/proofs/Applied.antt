@@ -24,7 +24,7 @@ use Rattle.tree_constraints.specs.declared.constraint.Constraint.{Constraint}
 use Rattle.tree_constraints.specs.declared.constraint.Origin.{Origin}
 use Rattle.tree_constraints.specs.declared.constraint.Origin.TheVariants as origin
 use Rattle.tree_constraints.specs.Laws.{BindingsAreElements}
-use Rattle.tree_constraints.proofs.Bindings.{AreElements, binds_elements}
+use Rattle.tree_constraints.proofs.Bindings.{AreElements, AreOfPlainSorts, binds_elements, binds_plain}
 use Rattle.tree_constraints.specs.Constraints.{ordinary_hit, hit_of, IsConstraint, rule_of}
 
 -- the first that gives something gives it
@@ -50,12 +50,13 @@ hit_parts true None property boundary n h e = cc
 hit_parts false o property boundary n h e = cc
 
 -- what is found at an unknown
-record IsFound (spec : Spec) (tree : Term) (u : Unknown) (h : RuleHit) : Type 0 where
+pub record IsFound (spec : Spec) (tree : Term) (u : Unknown) (h : RuleHit) : Type 0 where
   pub rule : PropRule
   pub stands : slice_get spec.rules h.rule ≡ Some rule
   pub of_property : u.property ≡ rule.property.text
   pub binds : BindAll (bound_in (trigger_pattern rule.trigger)) h.bindings
   pub elements : AreElements spec tree (bound_in (trigger_pattern rule.trigger)) h.bindings
+  pub plain : AreOfPlainSorts (bound_in (trigger_pattern rule.trigger)) h.bindings
 
 module _ (spec : Spec) (tree : Term) where
   first_found : (boundary : Bool) (u : Unknown) (t : Term) → At tree u.node.path ≡ Some t → (h : RuleHit) → first_hit (property_number spec u.property) u.property boundary t u.node.path spec.rules ≡ Some h → IsFound spec tree u h
@@ -70,6 +71,7 @@ module _ (spec : Spec) (tree : Term) where
         of_property = rule_of_name u.property boundary rule parts.0;
         binds = binds_its_variables (trigger_pattern rule.trigger) t u.node.path h.bindings parts.1;
         elements = binds_elements spec tree (trigger_pattern rule.trigger) t u.node.path at h.bindings parts.1;
+        plain = binds_plain (trigger_pattern rule.trigger) t u.node.path h.bindings parts.1;
       }
 
   at_found : (boundary : Bool) (u : Unknown) (o : Option Term) → At tree u.node.path ≡ o → (h : RuleHit) → option_and_then (λ t. first_hit (property_number spec u.property) u.property boundary t u.node.path spec.rules) o ≡ Some h → IsFound spec tree u h
@@ -81,7 +83,7 @@ module _ (spec : Spec) (tree : Term) where
   ordinary_found u kind.Start h e = cc
   ordinary_found u kind.End h e = cc
 
-  hit_found : (u : Unknown) (o : Origin) (h : RuleHit) → hit_of spec tree u o ≡ Some h → IsFound spec tree u h
+  pub hit_found : (u : Unknown) (o : Origin) (h : RuleHit) → hit_of spec tree u o ≡ Some h → IsFound spec tree u h
   hit_found u origin.Boundary h e = at_found true u (At tree u.node.path) refl h e
   hit_found u (origin.Along n) h e = ordinary_found u u.node.kind h e
 
@@ -91,12 +93,13 @@ pub record IsApplied (spec : Spec) (tree : Term) (c : Constraint) (rule : PropRu
   pub of_property : c.key.target.property ≡ rule.property.text
   pub binds : BindAll (bound_in (trigger_pattern rule.trigger)) c.bindings
   pub elements : AreElements spec tree (bound_in (trigger_pattern rule.trigger)) c.bindings
+  pub plain : AreOfPlainSorts (bound_in (trigger_pattern rule.trigger)) c.bindings
 
 -- with this hit the rule is the one that was found
 by_hit : (spec : Spec) (tree : Term) (u : Unknown) (o : Option RuleHit) (rule : PropRule) → ((h : RuleHit) → o ≡ Some h → IsFound spec tree u h)
     → option_and_then (λ i. slice_get spec.rules i) (option_map (λ h. h.rule) o) ≡ Some rule
     → ((i : ℕ) × (slice_get spec.rules i ≡ Some rule)) × (u.property ≡ rule.property.text) × BindAll (bound_in (trigger_pattern rule.trigger)) (option_map_or (λ h. h.bindings) o [])
-    × AreElements spec tree (bound_in (trigger_pattern rule.trigger)) (option_map_or (λ h. h.bindings) o [])
+    × AreElements spec tree (bound_in (trigger_pattern rule.trigger)) (option_map_or (λ h. h.bindings) o []) × AreOfPlainSorts (bound_in (trigger_pattern rule.trigger)) (option_map_or (λ h. h.bindings) o [])
 by_hit spec tree u None rule found e = cc
 by_hit spec tree u (Some h) rule found e =
     let f = found h refl in
@@ -105,6 +108,7 @@ by_hit spec tree u (Some h) rule found e =
       f.of_property ∙ ap (λ (r : PropRule). r.property.text) same,
       subst (λ (r : PropRule). BindAll (bound_in (trigger_pattern r.trigger)) h.bindings) same f.binds,
       subst (λ (r : PropRule). AreElements spec tree (bound_in (trigger_pattern r.trigger)) h.bindings) same f.elements,
+      subst (λ (r : PropRule). AreOfPlainSorts (bound_in (trigger_pattern r.trigger)) h.bindings) same f.plain,
     )
 
 pub applied : (spec : Spec) (tree : Term) (c : Constraint) → IsConstraint spec tree c → (rule : PropRule) → rule_of spec c ≡ Some rule → IsApplied spec tree c rule
@@ -118,6 +122,7 @@ applied spec tree c is rule e =
       of_property = found.1;
       binds = subst (λ (bs : List Bound). BindAll (bound_in (trigger_pattern rule.trigger)) bs) bindings found.2;
       elements = subst (λ (bs : List Bound). AreElements spec tree (bound_in (trigger_pattern rule.trigger)) bs) bindings found.3;
+      plain = subst (λ (bs : List Bound). AreOfPlainSorts (bound_in (trigger_pattern rule.trigger)) bs) bindings found.4;
     }
 
 pub bindings_elements : BindingsAreElements

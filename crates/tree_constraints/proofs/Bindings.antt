@@ -1,8 +1,9 @@
 -- A pattern that matches in a tree binds its variables to elements of the tree.
-use Rattle.std.proofs.Common.{◌≡◌, ℕ, List, [], ◌∷◌, ◌++◌, Option, Some, None, refl, ap, ◌∙◌}
-use Rattle.std.specs.Prelude.{IsTrue, slice_get, option_and_then}
+use Rattle.std.proofs.Common.{◌≡◌, ℕ, Bool, true, false, List, [], ◌∷◌, ◌++◌, Option, Some, None, refl, ap, ◌∙◌}
+use Rattle.std.specs.Prelude.{⊤, IsTrue, slice_get, option_and_then}
 use Rattle.std.specs.List.{AllZip}
 use Rattle.std.proofs.lemmas.Option.{same_Some}
+use Rattle.flow_term.specs.declared.elem.Elem.{Elem}
 use Rattle.flow_term.specs.declared.term.Term.{Term}
 use Rattle.flow_term.specs.declared.value.Bound.{Bound}
 use Rattle.flow_term.specs.Trees.{At, children}
@@ -10,9 +11,10 @@ use Rattle.flow_syntax.specs.declared.pattern.Pattern.{Pattern}
 use Rattle.flow_syntax.specs.declared.spec.Spec.{Spec}
 use Rattle.flow_syntax.specs.Binders as binders
 use Rattle.flow_syntax.specs.Binders.{bound_in}
+use Rattle.flow_syntax.specs.Types.{Sort, enum_sort, pair_sort}
 use Rattle.flow_match.specs.Bindings.{bindings_at}
 use Rattle.flow_match.proofs.EachVariable.{IsOfEach, binds_these}
-use Rattle.tree_constraints.specs.Elements.{is_element}
+use Rattle.tree_constraints.specs.Elements.{elements_of, is_one_of}
 use Rattle.tree_constraints.proofs.Members.{position_had, name_had, text_had}
 
 -- the child of a position
@@ -29,12 +31,37 @@ at_child tree (m ∷ path) t n e = by (slice_get (children tree) m) refl e (λ c
     by (Some c) is k inner = inner c k
     by None is k inner = cc
 
+-- what each variable stands for is one of these elements, of its sort
+abbrev IsBoundAmong : (Sort → List Elem) → binders.Bound → Bound → Type 0
+IsBoundAmong elements v b = IsTrue (is_one_of elements v.sort b.value)
+
+abbrev pub AreBoundAmong : (Sort → List Elem) → List binders.Bound → List Bound → Type 0
+AreBoundAmong elements = AllZip (IsBoundAmong elements)
+
+-- the sorts of a pattern's variables have no parts and no declarations
+abbrev pub is_plain : Sort → Bool
+is_plain (enum_sort name) = false
+is_plain (pair_sort first second) = false
+is_plain sort = true
+
+abbrev HasPlainSort : binders.Bound → Bound → Type 0
+HasPlainSort v b = IsTrue (is_plain v.sort)
+
+abbrev pub AreOfPlainSorts : List binders.Bound → List Bound → Type 0
+AreOfPlainSorts = AllZip HasPlainSort
+
+each_plain : IsOfEach HasPlainSort (λ t path. ⊤)
+each_plain = record { child = λ t path here n u e. tt; position = λ t path here x at. refl; name = λ t path here n e x at. refl; text = λ t path here s e x at. refl; number = λ n x at. refl }
+
+pub binds_plain : (p : Pattern) (t : Term) (path : List ℕ) (bs : List Bound) → bindings_at p t path ≡ Some bs → AreOfPlainSorts (bound_in p) bs
+binds_plain p t path = binds_these HasPlainSort (λ t path. ⊤) each_plain p t path tt
+
 module _ (spec : Spec) (tree : Term) where
   abbrev IsElementOf : binders.Bound → Bound → Type 0
-  IsElementOf v b = IsTrue (is_element spec tree v.sort b.value)
+  IsElementOf = IsBoundAmong (elements_of spec tree)
 
   abbrev pub AreElements : List binders.Bound → List Bound → Type 0
-  AreElements vs bs = AllZip IsElementOf vs bs
+  AreElements = AreBoundAmong (elements_of spec tree)
 
   each_an_element : IsOfEach IsElementOf (λ t path. At tree path ≡ Some t)
   each_an_element = record {

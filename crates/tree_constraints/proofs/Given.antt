@@ -7,6 +7,7 @@ use Rattle.std.proofs.lemmas.List.Elements.{Contains-append_right}
 use Rattle.std.proofs.lemmas.Map.Views.{Contains-from_any}
 use Rattle.std.proofs.lemmas.Option.{slice_get-map}
 use Rattle.std.proofs.lemmas.Slice.Eq.{bytes_eq-Decides}
+use Rattle.flow_term.specs.declared.elem.Elem.{Elem}
 use Rattle.flow_term.specs.declared.elem.Elem.TheVariants as elem
 use Rattle.flow_term.specs.declared.term.Term.{Term}
 use Rattle.flow_term.specs.Annotations.{term_layer, text_in}
@@ -17,9 +18,11 @@ use Rattle.flow_syntax.specs.DeclFaults.{duplicate, type}
 use Rattle.flow_syntax.specs.Expressions.{expr_layer, expressions_of}
 use Rattle.flow_syntax.specs.Faults.{HasNoFault, declaration}
 use Rattle.flow_syntax.specs.Inferred.{enum_with, is_among}
+use Rattle.flow_syntax.specs.Types.{Sort, enum_sort, str_sort}
+use Rattle.value_domains.specs.Values.{has_elem}
 use Rattle.expr_meaning.specs.Making.{HasMade}
 use Rattle.typed_bodies.proofs.Names.{any_text, found_at}
-use Rattle.tree_constraints.specs.Elements.{has_parts, is_element, items_of, quoted, terms_of}
+use Rattle.tree_constraints.specs.Elements.{elements_of, has_parts, is_element, is_one_of, items_of, quoted, terms_of}
 use Rattle.tree_constraints.proofs.Lists.{map_has}
 use Rattle.tree_constraints.proofs.Members.{filter_map_has, once_has}
 
@@ -43,9 +46,9 @@ own_first (e ∷ es) (suc k) d at apart = by (bytes_eq d.name.text e.name.text) 
     by true h later = absurd (apart zero e (omega arith) refl (sym ((bytes_eq-Decides d.name.text e.name.text).0 h)))
     by false h later = later
 
-module _ (spec : Spec) (tree : Term) (faultless : HasNoFault spec) where
+module _ (spec : Spec) (faultless : HasNoFault spec) where
   -- the items of the enum with an item
-  items_are : (x : List ℕ) (d : EnumDecl) → enum_with spec x ≡ Some d → Contains (items_of spec d.name.text) x
+  pub items_are : (x : List ℕ) (d : EnumDecl) → enum_with spec x ≡ Some d → Contains (items_of spec d.name.text) x
   items_are x d e =
       let r = found_at (λ e. is_among x e.items) spec.enums d e in
       let enums = map (λ (e : EnumDecl). e.name) spec.enums in
@@ -64,16 +67,23 @@ module _ (spec : Spec) (tree : Term) (faultless : HasNoFault spec) where
       subst (λ (o : Option EnumDecl). Contains (option_map_or (λ e. map (λ item. item.text) e.items) o []) x) (sym first)
       (Contains-from_any (λ x y. (bytes_eq-Decides x y).0) x (map (λ (n : Named). n.text) d.items) (any_text x d.items ∙ r.2))
 
-  pub tree_has_made : HasMade (λ s x. IsTrue (is_element spec tree s x)) spec (expressions_of spec)
-  tree_has_made = record {
+  -- elements have all that expressions make themselves, where they have the items and the texts
+  pub has_made : (elements : Sort → List Elem) → ((x name : List ℕ) → Contains (items_of spec name) x → has_elem (elements (enum_sort name)) (elem.Item x) ≡ true)
+      → ((x : List ℕ) → Contains (filter_map (λ e. quoted (expr_layer e)) (expressions_of spec)) x → has_elem (elements str_sort) (elem.Str x) ≡ true)
+      → HasMade (λ s x. IsTrue (is_one_of elements s x)) spec (expressions_of spec)
+  has_made elements items texts = record {
     integers = λ n. refl;
-    items = λ x d e. once_has (map elem.Item (items_of spec d.name.text)) (elem.Item x) (map_has elem.Item (items_of spec d.name.text) x (items_are x d e));
-    texts = λ e text among is.
-        let texts = filter_map (λ t. text_in (term_layer t)) (terms_of tree) in
-        let quotes = filter_map (λ e. quoted (expr_layer e)) (expressions_of spec) in
-        once_has (map elem.Str (texts ++ quotes)) (elem.Str text) (map_has elem.Str (texts ++ quotes) text (Contains-append_right texts quotes text (filter_map_has (λ e. quoted (expr_layer e)) (expressions_of spec) e text among (ap quoted is))));
+    items = λ x d e. items x d.name.text (items_are x d e);
+    texts = λ e text among is. texts text (filter_map_has (λ e. quoted (expr_layer e)) (expressions_of spec) e text among (ap quoted is));
     pairs = λ s t a b. (
-      λ h. and_parts (is_element spec tree s a) (is_element spec tree t b) (sym (ap (has_parts (is_element spec tree s) (is_element spec tree t)) (elem.outs-Pair a b)) ∙ h),
-      λ h. ap (has_parts (is_element spec tree s) (is_element spec tree t)) (elem.outs-Pair a b) ∙ and_from (is_element spec tree s a) (is_element spec tree t b) h.0 h.1,
+      λ h. and_parts (is_one_of elements s a) (is_one_of elements t b) (sym (ap (has_parts (is_one_of elements s) (is_one_of elements t)) (elem.outs-Pair a b)) ∙ h),
+      λ h. ap (has_parts (is_one_of elements s) (is_one_of elements t)) (elem.outs-Pair a b) ∙ and_from (is_one_of elements s a) (is_one_of elements t b) h.0 h.1,
     );
   }
+
+  pub tree_has_made : (tree : Term) → HasMade (λ s x. IsTrue (is_element spec tree s x)) spec (expressions_of spec)
+  tree_has_made tree =
+      let strings = filter_map (λ t. text_in (term_layer t)) (terms_of tree) in
+      let quotes = filter_map (λ e. quoted (expr_layer e)) (expressions_of spec) in
+      has_made (elements_of spec tree) (λ x name h. once_has (map elem.Item (items_of spec name)) (elem.Item x) (map_has elem.Item (items_of spec name) x h))
+      (λ x h. once_has (map elem.Str (strings ++ quotes)) (elem.Str x) (map_has elem.Str (strings ++ quotes) x (Contains-append_right strings quotes x h)))

@@ -27,7 +27,7 @@ use Rattle.tree_constraints.specs.Elements.{elements_of, once, paths_of, quoted,
 use Rattle.tree_constraints.proofs.Lists.{none_in_nil, at_head, in_tail, cons_cases, map_has, has_from, contains_from}
 use Rattle.tree_constraints.proofs.Paths.{has_path}
 
-same_elements : IsExact (eq_by_cmp elem_cmp)
+pub same_elements : IsExact (eq_by_cmp elem_cmp)
 same_elements = record { itself = ties_itself elem_cmp elem_total elem_exact; exact = same_tied elem_cmp elem_total elem_exact }
 
 -- each element is kept once

@@ -56,8 +56,12 @@ abbrev pub has_parts : (Elem → Bool) → (Elem → Bool) → Elem-F Elem → B
 has_parts first second (Elem-F.Pair a b) = first a && second b
 has_parts first second _ = false
 
--- whether an element is one of a sort's; each integer is, and a pair with one where its other part is
+-- whether an element is one of a sort's, by those of the sorts without parts; each integer is, and a pair where its parts are
+abbrev pub is_one_of : (Sort → List Elem) → Sort → Elem → Bool
+is_one_of elements int_sort e = true
+is_one_of elements (pair_sort first second) e = has_parts (is_one_of elements first) (is_one_of elements second) (out-Elem e)
+is_one_of elements sort e = has_elem (elements sort) e
+
+-- whether an element is one of a tree's
 abbrev pub is_element : Spec → Term → Sort → Elem → Bool
-is_element spec tree int_sort e = true
-is_element spec tree (pair_sort first second) e = has_parts (is_element spec tree first) (is_element spec tree second) (out-Elem e)
-is_element spec tree sort e = has_elem (elements_of spec tree sort) e
+is_element spec tree = is_one_of (elements_of spec tree)

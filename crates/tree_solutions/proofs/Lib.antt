@@ -1,0 +1,5 @@
+pub mod Bound
+pub mod Fewer
+pub mod Lawful
+pub mod Made
+pub mod Settled
