@@ -22,6 +22,8 @@ mod program;
 #[cfg(test)]
 mod rows;
 #[cfg(test)]
+mod scripts;
+#[cfg(test)]
 mod signatures;
 #[cfg(test)]
 mod sorts;

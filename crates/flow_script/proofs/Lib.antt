@@ -1,0 +1,4 @@
+pub mod Numbers
+pub mod Paths
+pub mod Single
+pub mod Reading

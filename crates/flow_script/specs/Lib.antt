@@ -1,0 +1,5 @@
+pub mod Forms
+pub mod inner
+pub mod Laws
+pub mod Results
+pub mod Scripts

@@ -1,0 +1,5 @@
+use Rattle.session_theory.proofs.CommandLemmas as lemmas
+use Rattle.session_theory.proofs.commands.spent_has_cause.Goals as goal
+
+pub returns : goal.returns
+returns g c = λ budget. lemmas.spent_cause g.C.Commanded.same g.C.Commanded.tells g.C.Commanded.IsSystemOf g.C.Commanded.systems g.C.Commanded.says g.C.Commanded.edits budget g.C.Commanded.ends
