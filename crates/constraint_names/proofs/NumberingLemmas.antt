@@ -12,14 +12,14 @@ use Rattle.constraint_names.proofs.MapLemmas.{has-map, has-map_back}
 use Rattle.constraint_names.proofs.BackLemmas as back
 
 module _ {L W X : Type 0} (other : Equality L W) (tells' : IsEquality other) (t : ConstraintSystem L W X) (n : Numbering L W) (law : IsMonotone other t) (numbering : IsNumbering t n) where
-  key_known : (k : ℕ) → has nat_eq n.keys k ≡ true → IsKey other t (n.key k)
+  pub key_known : (k : ℕ) → has nat_eq n.keys k ≡ true → IsKey other t (n.key k)
   key_known k known = ap (λ ls. has other.key ls (n.key k)) (sym numbering.keys) ∙ has-map nat_eq other.key numbers_exact tells'.keys n.key n.keys k known
 
-  unknown_used : (u : ℕ) → has nat_eq n.unknowns u ≡ true → IsUnknown other t (n.unknown u)
+  pub unknown_used : (u : ℕ) → has nat_eq n.unknowns u ≡ true → IsUnknown other t (n.unknown u)
   unknown_used u used = ap (λ ws. has other.unknown ws (n.unknown u)) (sym numbering.unknowns) ∙ has-map nat_eq other.unknown numbers_exact tells'.unknowns n.unknown n.unknowns u used
 
   -- the number of an unknown is in use, and names it
-  numbered_back : (w : W) → IsUnknown other t w → (has nat_eq n.unknowns (n.number w) ≡ true) × (n.unknown (n.number w) ≡ w)
+  pub numbered_back : (w : W) → IsUnknown other t w → (has nat_eq n.unknowns (n.number w) ≡ true) × (n.unknown (n.number w) ≡ w)
   numbered_back w used =
       let found : (u : ℕ) × (has nat_eq n.unknowns u ≡ true) × (n.unknown u ≡ w) = has-map_back nat_eq other.unknown numbers_exact tells'.unknowns n.unknown n.unknowns w (ap (λ ws. has other.unknown ws w) numbering.unknowns ∙ used) in
       let number : n.number w ≡ found.0 = ap n.number (sym found.2) ∙ numbering.number found.0 found.1 in
@@ -32,7 +32,7 @@ module _ {L W X : Type 0} (other : Equality L W) (tells' : IsEquality other) (t 
       ∙ ap (λ vs. w ∷ vs) (names_again ws (λ v h. all v (or_right (other.unknown w v) (has other.unknown ws v) h)))
 
   -- an assignment by number, and one that agrees with it, fit by name
-  fits_numbered : (a : ℕ → X) → Fitting numbers (numbered t n) a → Fitting other t (λ w. a (n.number w))
+  pub fits_numbered : (a : ℕ → X) → Fitting numbers (numbered t n) a → Fitting other t (λ w. a (n.number w))
   fits_numbered a fa w used = let found : (has nat_eq n.unknowns (n.number w) ≡ true) × (n.unknown (n.number w) ≡ w) = numbered_back w used in
       ap (λ v. t.fits v (a (n.number w))) (sym found.1) ∙ fa (n.number w) found.0
 

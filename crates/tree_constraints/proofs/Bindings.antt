@@ -22,7 +22,7 @@ itself : (o : Option Term) → option_and_then (λ child. At child []) o ≡ o
 itself (Some t) = refl
 itself None = refl
 
-at_child : (tree : Term) (path : List ℕ) (t : Term) (n : ℕ) → At tree path ≡ Some t → At tree (path ++ n ∷ []) ≡ slice_get (children t) n
+pub at_child : (tree : Term) (path : List ℕ) (t : Term) (n : ℕ) → At tree path ≡ Some t → At tree (path ++ n ∷ []) ≡ slice_get (children t) n
 at_child tree [] t n e = itself (slice_get (children tree) n) ∙ ap (λ (u : Term). slice_get (children u) n) (same_Some tree t e)
 at_child tree (m ∷ path) t n e = by (slice_get (children tree) m) refl e (λ c k. at_child c path t n k)
   where

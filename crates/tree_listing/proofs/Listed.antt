@@ -42,7 +42,7 @@ use Rattle.tree_listing.proofs.Properties.{properties_exist}
 
 -- NODES BY THEIR ORDER
 
-told_node : (a b : Node) → same_node a b ≡ true → a ≡ b
+pub told_node : (a b : Node) → same_node a b ≡ true → a ≡ b
 told_node a b h = same_nodes a b (nodes_ordered a b ∙ (Equal-is (node_cmp a b)).0 h)
 
 first_ties : (a b : Ordering) → ordering_then a b ≡ Equal → a ≡ Equal
@@ -50,7 +50,7 @@ first_ties Less b h = cc
 first_ties Equal b h = refl
 first_ties Greater b h = cc
 
-node_ties : (a : Node) → node_cmp a a ≡ Equal
+pub node_ties : (a : Node) → node_cmp a a ≡ Equal
 node_ties a = first_ties (node_cmp a a) (slice_cmp nat_cmp [] []) (unknown_ties (unknown_at a []))
 
 names_rise : (n : Node) (p q : Property) → name_cmp p q ≡ Less → unknown_cmp (unknown_at n p.name) (unknown_at n q.name) ≡ Less
@@ -299,7 +299,7 @@ module _ (spec : Spec) (tree : Term) (properties : List Property) (nodes : List 
       flat_map_has (unknowns_at properties) nodes u.node u ((are_nodes.exactly u.node).1 h.node)
       (subst (λ (v : Unknown). Contains (unknowns_at properties u.node) v) same (map_has (λ (p : Property). unknown_at u.node p.name) properties (property_of spec h.property) (are_properties.all h.property h.declared)))
 
-  listed_are_unknowns : AreUnknowns spec tree (listed_unknowns properties nodes)
+  pub listed_are_unknowns : AreUnknowns spec tree (listed_unknowns properties nodes)
   listed_are_unknowns = record { exactly = λ u. (unknown_from u, unknown_has u); ordered = unknowns_sorted properties nodes are_properties.ordered are_nodes.ordered }
 
 -- THE LAWS

@@ -55,7 +55,7 @@ by_place properties (m ∷ nodes) (suc i) j n p at_i at_j =
     ap (slice_get (unknowns_at properties m ++ rest)) place ∙ behind (unknowns_at properties m) rest (i * length properties + j) ∙ by_place properties nodes i j n p at_i at_j
 
 -- in a list in order each unknown is found at its own place
-own_place : (us : List Unknown) (u : Unknown) (k : ℕ) → IsStrictlySortedBy unknown_cmp us → slice_get us k ≡ Some u → position_or_len (by_parts.unknown u) us ≡ k
+pub own_place : (us : List Unknown) (u : Unknown) (k : ℕ) → IsStrictlySortedBy unknown_cmp us → slice_get us k ≡ Some u → position_or_len (by_parts.unknown u) us ≡ k
 own_place us u k sorted at_k =
     let within : k < length us = slice_get_within us k u at_k in
     let is : get_or us k u ≡ u = get_or_from_slice_get us k u u at_k in

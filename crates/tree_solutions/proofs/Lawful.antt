@@ -32,7 +32,7 @@ use Rattle.tree_solutions.specs.Laws.{BroughtSystemsAreLawful, RulesCanBeEvaluat
 use Rattle.tree_solutions.proofs.Made.{keep_to_brought}
 
 -- a test that holds whatever is there holds where something is
-told : {P : Type 0} (b : Bool) → ∥ P ∥₁ → (P → b ≡ true) → b ≡ true
+pub told : {P : Type 0} (b : Bool) → ∥ P ∥₁ → (P → b ≡ true) → b ≡ true
 told true some f = refl
 told false some f = absurd (not_there some (λ p. true≢false (sym (f p))))
 

@@ -3,3 +3,4 @@ pub mod Fewer
 pub mod Lawful
 pub mod Made
 pub mod Settled
+pub mod There

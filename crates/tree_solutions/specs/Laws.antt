@@ -1,5 +1,6 @@
 -- What the systems of trees over what their constraints bring have in common with the trees.
-use Rattle.std.specs.Prelude.{◌≡◌, ◌≤◌, ℕ, List, [], Some, map}
+use Rattle.std.specs.Prelude.{◌≡◌, ◌≤◌, ℕ, List, [], Some, map, ◌<◌, length, true}
+use Rattle.list_theory.specs.Lists.{has}
 use Rattle.flow_term.specs.declared.graph.Unknown.{Unknown}
 use Rattle.flow_term.specs.declared.term.Term.{Term}
 use Rattle.flow_term.specs.declared.value.Value.{Value}
@@ -12,6 +13,7 @@ use Rattle.constraint_theory.specs.Machine.{State, IsSound, replay}
 use Rattle.constraint_theory.specs.Systems.{Fitting, IsKey, IsLawful, bound, numbers}
 use Rattle.constraint_names.specs.Numbering.{Numbering, IsNumbering, numbered}
 use Rattle.value_heights.specs.Heights.{HasNoMore}
+use Rattle.expr_meaning.specs.Meaning.{property_number}
 use Rattle.expr_meaning.specs.Typing.{Suits}
 use Rattle.typed_bodies.specs.Anywhere.{used_by, variables_at}
 use Rattle.tree_constraints.specs.declared.constraint.Constraint.{Constraint}
@@ -41,6 +43,15 @@ abbrev pub RulesCanBeEvaluated : Type 0
 RulesCanBeEvaluated = (spec : Spec) (types : List Typing) → IsAnalysed spec types → (cs : List Constraint) (us : List Unknown) → ∥ IsOfTree spec cs us ∥₁
     → (c : Constraint) → IsKey by_parts (brought_system spec types cs us) c → (rule : PropRule) → rule_of spec c ≡ Some rule
     → (a : Unknown → Value) → Fitting by_parts (brought_system spec types cs us) a → Suits (used_by spec rule.body) (variables_at (trigger_scope rule.trigger)) (situation_of spec c a)
+
+-- and each rule of a constraint is one of the specification's
+abbrev pub RulesAreThere : Type 0
+RulesAreThere = (spec : Spec) (cs : List Constraint) (us : List Unknown) → ∥ IsOfTree spec cs us ∥₁ → (c : Constraint) → has by_parts.key cs c ≡ true → (i : ℕ) → c.rule ≡ Some i → i < length spec.rules
+
+-- each property of an unknown is declared
+abbrev pub PropertiesAreDeclared : Type 0
+PropertiesAreDeclared = (spec : Spec) (types : List Typing) → IsAnalysed spec types → (cs : List Constraint) (us : List Unknown) → ∥ IsOfTree spec cs us ∥₁ → (u : Unknown) → has by_parts.unknown us u ≡ true
+    → property_number spec u.property < length spec.properties
 
 -- where nothing waits, the values by number are the analysis of the tree
 abbrev pub SettledIsAnalysis : Type 0

@@ -1,5 +1,5 @@
 //! What the system of a tree's constraints says of the tree.
-ghost use Rattle.tree_solutions.specs.Laws.{AnalysesAreOne, BroughtAreNoMore, BroughtBoundsAreWithin, BroughtSystemsAreLawful, RulesCanBeEvaluated, SettledIsAnalysis};
+ghost use Rattle.tree_solutions.specs.Laws.{AnalysesAreOne, BroughtAreNoMore, BroughtBoundsAreWithin, BroughtSystemsAreLawful, PropertiesAreDeclared, RulesAreThere, RulesCanBeEvaluated, SettledIsAnalysis};
 
 /// The constraints of a tree bring no more elements of any sort than the tree has.
 pub fn brought_are_no_more()
@@ -21,6 +21,16 @@ pub fn brought_systems_are_lawful()
 /// it reads is one of its property's domain.
 pub fn rules_can_be_evaluated()
     ensures { RulesCanBeEvaluated }
+{}
+
+/// The rule of each constraint of some tree is one of the specification's.
+pub fn rules_are_there()
+    ensures { RulesAreThere }
+{}
+
+/// The property of each unknown of some tree is declared.
+pub fn properties_are_declared()
+    ensures { PropertiesAreDeclared }
 {}
 
 /// Where a sound state by number has nothing waiting, the values that its steps lead to are the analysis of the tree.

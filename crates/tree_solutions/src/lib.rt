@@ -9,5 +9,5 @@ mod laws;
 
 pub use laws::{
     analyses_are_one, brought_are_no_more, brought_bounds_are_within, brought_systems_are_lawful,
-    rules_can_be_evaluated, settled_is_analysis,
+    properties_are_declared, rules_are_there, rules_can_be_evaluated, settled_is_analysis,
 };

@@ -1,0 +1,7 @@
+pub mod EndFacts
+pub mod HitFacts
+pub mod ListFacts
+pub mod NodeFacts
+pub mod RowFacts
+pub mod StandFacts
+pub mod TargetFacts

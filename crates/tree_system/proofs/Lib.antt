@@ -1,0 +1,4 @@
+pub mod BuildFacts
+pub mod EvalFacts
+pub mod ReadFacts
+pub mod TableFacts

@@ -1,0 +1,16 @@
+use Rattle.std.proofs.Common.{◌<◌, ℕ, length, sym, subst}
+use Rattle.expr_meaning.specs.Meaning.{property_number}
+use Rattle.tree_system.specs.Tables.{by_place}
+use Rattle.tree_system.specs.TableLaws.{property_in}
+use Rattle.tree_system.proofs.EvalFacts.{at_place}
+use Rattle.tree_system.proofs.system.TreeSystemSystem.lattice.Goals as goal
+
+pub lattice-requires : goal.lattice-requires
+lattice-requires g c =
+    let s = c.args.self.now in
+    let spec = g.B.Bodies.spec s.bodies in
+    let types = g.B.Bodies.types s.bodies in
+    let accepted = g.met.B.Bodies.accepted s.bodies in
+    let n = by_place s.constraints s.unknowns s.keys s.in_use in
+    let is = at_place s.properties.items 0 c.index.result.now (property_number spec (n.unknown c.args.unknown).property) c.args.unknown c.index.ensures (s.tables.properties_are c.args.unknown c.requires) in
+    subst (λ (p : ℕ). p < length spec.properties) (sym is) (property_in spec types accepted n s.of_tree s.tables c.args.unknown c.requires)
