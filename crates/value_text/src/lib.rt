@@ -14,7 +14,9 @@ mod values;
 mod writer;
 
 pub use form::{elems_rise, has_text, keys_rise};
+pub use identifier::is_identifier;
 pub use laws::texts_have_one_value;
+pub use limits::steps_are_small;
 pub use reader::read_value;
 pub use refusal::ValueRefusal;
-pub use writer::write_value;
+pub use writer::{push_position, push_value, write_value};

@@ -1,11 +1,12 @@
 //! Writing values.
 ghost use Rattle.std.specs.Prelude.{◌≡◌, ◌++◌, IfOk, OnOk, map, codes};
 ghost use Rattle.std.specs.Fmt.{signed_decimal};
-ghost use Rattle.flow_term.specs.Paths.{path_text};
+ghost use Rattle.std.specs.List.{flat_map};
+ghost use Rattle.flow_term.specs.Paths.{path_text, step_text};
 ghost use Rattle.value_text.specs.Laws.{IsTextOf};
 ghost use Rattle.value_text.specs.Texts.{HasText, elem_text, entry_text, listed, separator, value_text};
 
-use flow_term::{Elem, Entry, List, Path, Text, Value, write_path};
+use flow_term::{Elem, Entry, List, Path, Text, Value};
 use itoa::Buffer;
 use quoted_text::push_quoted;
 use std::alloc::{AllocError, Global};
@@ -20,8 +21,9 @@ pub fn write_value(alloc: Global, value: &Value) -> Result<List<u8>, AllocError>
     Ok(List::from_vec(bytes))
 }
 
+/// Adds the text of a value. After want of memory a part of it may be there.
 #[cycle(write)]
-fn push_value(bytes: &mut Vec<u8>, value: &Value) -> Result<(), AllocError>
+pub fn push_value(bytes: &mut Vec<u8>, value: &Value) -> Result<(), AllocError>
     ensures { OnOk result (bytes.new.items ≡ bytes.old.items ++ value_text value.now) }
 {
     match value {
@@ -98,7 +100,7 @@ fn push_elem(bytes: &mut Vec<u8>, elem: &Elem) -> Result<(), AllocError>
     match elem {
         Elem::Name(text) => push_quoted(bytes, b'"', text.as_str().as_bytes()),
         Elem::Str(text) => push_quoted(bytes, b'\'', text.as_str().as_bytes()),
-        Elem::Pos(path) => push_path(bytes, path),
+        Elem::Pos(path) => push_position(bytes, path),
         Elem::Item(text) => push_text(bytes, text),
         Elem::Int(number) => push_number(bytes, *number),
         Elem::Pair(left, right) => {
@@ -117,11 +119,37 @@ fn push_text(bytes: &mut Vec<u8>, text: &Text) -> Result<(), AllocError>
     bytes.extend_from_slice(text.as_str().as_bytes())
 }
 
-fn push_path(bytes: &mut Vec<u8>, path: &Path) -> Result<(), AllocError>
+/// Adds the text of a path, in place. After want of memory a part of it may be there.
+pub fn push_position(bytes: &mut Vec<u8>, path: &Path) -> Result<(), AllocError>
     ensures { OnOk result (bytes.new.items ≡ bytes.old.items ++ path_text path.now) }
 {
-    let text = write_path(*bytes.allocator(), path)?;
-    bytes.extend_from_slice(text.as_slice())
+    push_steps(bytes, path.as_slice())
+}
+
+fn push_steps(bytes: &mut Vec<u8>, steps: &[u32]) -> Result<(), AllocError>
+    ensures { OnOk result (bytes.new.items ≡ bytes.old.items ++ path_text steps.now) }
+{
+    if steps.is_empty() {
+        return bytes.extend_from_slice(b"/");
+    }
+    push_each(bytes, steps)
+}
+
+fn push_each(bytes: &mut Vec<u8>, steps: &[u32]) -> Result<(), AllocError>
+    ensures { OnOk result (bytes.new.items ≡ bytes.old.items ++ flat_map step_text steps.now) }
+{
+    for step in steps {
+        push_step(bytes, *step)?;
+    }
+    Ok(())
+}
+
+fn push_step(bytes: &mut Vec<u8>, step: u32) -> Result<(), AllocError>
+    ensures { OnOk result (bytes.new.items ≡ bytes.old.items ++ step_text step) }
+{
+    bytes.extend_from_slice(b"/")?;
+    let mut buffer = Buffer::new();
+    bytes.extend_from_slice(buffer.format(step).as_bytes())
 }
 
 fn push_number(bytes: &mut Vec<u8>, number: i64) -> Result<(), AllocError>

@@ -1,0 +1,10 @@
+pub mod Bare
+pub mod Counts
+pub mod Entries
+pub mod Moving
+pub mod Parts
+pub mod Steps
+pub mod Unique
+pub mod Values
+pub mod Whole
+pub mod Written

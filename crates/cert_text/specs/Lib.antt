@@ -1,0 +1,4 @@
+pub mod inner
+pub mod Laws
+pub mod Lines
+pub mod Texts

@@ -1,0 +1,4 @@
+pub mod GraphText
+pub mod Laws
+pub mod Prints
+pub mod SolutionText
