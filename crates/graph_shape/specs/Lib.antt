@@ -1,0 +1,9 @@
+pub mod Laws
+pub mod Mirrored
+pub mod Outer
+pub mod Plans
+pub mod Replaced
+pub mod RuleSteps
+pub mod Shapes
+pub mod Steps
+pub mod inner

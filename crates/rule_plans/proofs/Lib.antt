@@ -1,0 +1,2 @@
+pub mod Hopping
+pub mod Stops
