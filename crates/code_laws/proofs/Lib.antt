@@ -1,0 +1,15 @@
+pub mod BinderForms
+pub mod Binding
+pub mod CodeLists
+pub mod ElemForms
+pub mod Given
+pub mod RangeFacts
+pub mod MadeMaps
+pub mod MapForms
+pub mod NameForms
+pub mod OtherForms
+pub mod OwnTypes
+pub mod SetForms
+pub mod TruthForms
+pub mod ValueForms
+pub mod Walks
