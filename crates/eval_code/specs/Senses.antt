@@ -1,5 +1,5 @@
 -- What code gives, and what a run of it needs.
-use Rattle.std.specs.Prelude.{ℕ, Bool, not, ◌&&◌, ◌||◌, cond, List, [], ◌∷◌, map}
+use Rattle.std.specs.Prelude.{ℕ, ◌+◌, ◌*◌, Bool, not, ◌&&◌, ◌||◌, cond, List, [], ◌∷◌, length, map, get_or}
 use Rattle.std.specs.Int.{int_wrapping_neg}
 use mir.Syntax.{w64}
 use Rattle.flow_term.specs.declared.elem.Elem.{Elem, out-Elem}
@@ -7,13 +7,14 @@ use Rattle.flow_term.specs.declared.elem.Elem.TheVariants as elem
 use Rattle.flow_term.specs.declared.value.Value.{Value, Value-F, out-Value}
 use Rattle.flow_term.specs.declared.value.Value.TheVariants as value
 use Rattle.value_domains.specs.Values.{ValueLayer, union_of, intersection_of, map_in, left_in, right_in, entries_of, value_or}
-use Rattle.value_domains.specs.Domains.{Domain, joined_of}
+use Rattle.value_domains.specs.Domains.{Domain, joined_of, place_in, item_in}
 use Rattle.lattice_any.specs.Types.{domain_of_any}
 use Rattle.expr_meaning.specs.Meaning.{set_of, difference_of, on_set, on_sets, is_member, chosen, updated, map_of, first_part, second_part, bind_value, int_in, arith_value, compared}
 use Rattle.eval_code.specs.declared.code.Half.{Half}
 use Rattle.eval_code.specs.declared.code.Half.TheVariants as half
 use Rattle.eval_code.specs.declared.code.Combination.{Combination}
 use Rattle.eval_code.specs.declared.code.Combination.TheVariants as combination
+use Rattle.eval_code.specs.declared.code.CallTable.{CallTable}
 use Rattle.eval_code.specs.declared.code.Choice.{Choice, Choice-F, fold-Choice}
 use Rattle.eval_code.specs.declared.code.ElemCode.{ElemCode, ElemCode-F, fold-ElemCode}
 use Rattle.eval_code.specs.declared.code.EntryCode.{EntryCode, EntryCode-F, fold-EntryCode}
@@ -87,6 +88,16 @@ fits_at d e = fits d e.1
 abbrev pub all_fit : Domain → List (Elem × Value) → Demand
 all_fit d es = all_of (map (fits_at d) es)
 
+-- FUNCTIONS OF LISTED ELEMENTS
+
+-- the number of a tuple of elements of these lattices, where the last one changes fastest
+abbrev pub row_number : ℕ → List (List (List ℕ)) → List Value → ℕ
+row_number n (names ∷ lattices) (v ∷ vs) = row_number (n * length names + place_in names (item_in (out-Value v))) lattices vs
+row_number n _ _ = n
+
+abbrev pub called : CallTable → List Value → Value
+called t vs = value.Item (get_or t.results (row_number 0 t.lattices vs) [])
+
 -- COMPREHENSIONS AND BINDINGS
 
 -- what is made of an element that the slot holds, and whether it is taken
@@ -134,6 +145,7 @@ value_layer (ValueCode-F.Bind a n b) = given_bind a n b
 value_layer (ValueCode-F.Look least m k) = given_two (looked_up least) m k
 value_layer (ValueCode-F.Update l m k v) = given_two (updated_map (domain_of_any l)) m (given_two (λ k v. (k, v)) k (asking (fits (domain_of_any l)) v))
 value_layer (ValueCode-F.Map l es) = given_one (made_map (domain_of_any l)) (asking (all_fit (domain_of_any l)) (given_all es))
+value_layer (ValueCode-F.Call t vs) = given_one (called t) (given_all vs)
 
 abbrev pub elem_layer : ElemCode-F (Given Elem) (Given Bool) (Given Value) (Given Value) (Given (Elem × Value)) → Given Elem
 elem_layer (ElemCode-F.«ElemCode::Constant» e) = given_here e

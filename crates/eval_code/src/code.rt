@@ -1,5 +1,5 @@
 use flow_syntax::{ArithOp, CompareOp, Side};
-use flow_term::{Boxed, Elem, List, Value};
+use flow_term::{Boxed, Elem, List, Text, Value};
 use lattice_any::AnyL;
 
 /// A part of a pair.
@@ -20,6 +20,15 @@ pub enum Combination {
     Inter,
     /// The elements of the first that the second lacks.
     Minus,
+}
+
+/// A function of listed elements, by their names.
+#[derive(Drop)]
+pub struct CallTable {
+    /// The elements of each argument's lattice, in the order of the text.
+    pub lattices: List<List<Text>>,
+    /// The result for each argument, row by row in the order of the elements.
+    pub results: List<Text>,
 }
 
 /// Code that gives a value of a lattice.
@@ -57,6 +66,8 @@ pub enum ValueCode {
     Update(Boxed<AnyL>, Boxed<ValueCode>, Boxed<ElemCode>, Boxed<ValueCode>),
     /// The map of keys and values of the lattice, where the values of one key are joined; the least value makes no entry.
     Map(Boxed<AnyL>, List<EntryCode>),
+    /// What a function gives for these arguments.
+    Call(Boxed<CallTable>, List<ValueCode>),
 }
 
 /// Code that gives an element.

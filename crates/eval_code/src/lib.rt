@@ -3,4 +3,4 @@
 
 mod code;
 
-pub use code::{Choice, Combination, ElemCode, EntryCode, Half, TruthCode, ValueCode};
+pub use code::{CallTable, Choice, Combination, ElemCode, EntryCode, Half, TruthCode, ValueCode};

@@ -1,1 +1,4 @@
 pub mod ElemSets
+pub mod EntryLists
+pub mod LeastValues
+pub mod NamePlaces

@@ -4,8 +4,9 @@ ghost use Rattle.std.specs.BTreeSet.{insert_key};
 ghost use Rattle.std.specs.List.Sorted.{IsStrictlySortedBy};
 ghost use Rattle.flow_term.specs.Elements.{elem_cmp};
 ghost use Rattle.flow_term.specs.declared.elem.Elem.{out-Elem};
-ghost use Rattle.flow_term.specs.declared.elem.Elem.TheVariants.{Int};
+ghost use Rattle.flow_term.specs.declared.elem.Elem.TheVariants.{Int, Pair as ElemPair};
 ghost use Rattle.flow_term.specs.declared.value.Value.{out-Value};
+ghost use Rattle.flow_term.specs.declared.value.Value.TheVariants.{Flat, Pair};
 ghost use Rattle.value_domains.specs.Domains.{IsValueOf, joined_of};
 ghost use Rattle.lattice_any.specs.Types.{domain_of_any};
 ghost use Rattle.expr_meaning.specs.Meaning.{arith_value, compared, int_in, is_member as member};
@@ -18,7 +19,7 @@ use crate::numbers::{compare, made_int};
 use crate::sets::{combine, insert_elem, is_member, remove_elem};
 use eval_code::Combination;
 use flow_syntax::{ArithOp, CompareOp};
-use flow_term::Elem;
+use flow_term::{Elem, Value};
 use lattice_any::AnyL;
 use lattice_base::Lattice;
 use lattice_sets::SortedSet;
@@ -94,4 +95,33 @@ pub fn insert_held<'a>(
     ensures { OnOk result (set.new ≡ insert_key elem_cmp set.old (elem_of elem.entry)) }
 {
     insert_elem(set, elem.own(alloc)?)
+}
+
+/// The flat value of an element; it is copied where it was lent. Fails only for want of memory.
+pub fn flat_held<'a>(alloc: Global, elem: HeldElem<'a>) -> Result<Held<'a>, AllocError>
+    ensures { IfOk result (λ value. value_of value ≡ Flat (elem_of elem.entry)) }
+{
+    Ok(Held::Made(Value::Flat(elem.own(alloc)?)))
+}
+
+/// The pair of two values; what was lent is copied. Fails only for want of memory.
+pub fn pair_held<'a>(alloc: Global, a: Held<'a>, b: Held<'a>) -> Result<Held<'a>, AllocError>
+    ensures { IfOk result (λ value. value_of value ≡ Pair (value_of a.entry) (value_of b.entry)) }
+{
+    let left = a.boxed(alloc)?;
+    let right = b.boxed(alloc)?;
+    Ok(Held::Made(Value::Pair(left, right)))
+}
+
+/// The pair of two elements; what was lent is copied. Fails only for want of memory.
+pub fn pair_elem_held<'a>(
+    alloc: Global,
+    a: HeldElem<'a>,
+    b: HeldElem<'a>,
+) -> Result<HeldElem<'a>, AllocError>
+    ensures { IfOk result (λ elem. elem_of elem ≡ ElemPair (elem_of a.entry) (elem_of b.entry)) }
+{
+    let left = a.boxed(alloc)?;
+    let right = b.boxed(alloc)?;
+    Ok(HeldElem::Made(Elem::Pair(left, right)))
 }

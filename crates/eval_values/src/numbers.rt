@@ -1,7 +1,7 @@
 //! Integers and comparisons of elements.
 ghost use Rattle.std.specs.Prelude.{◌≡◌};
 ghost use Rattle.std.specs.Int.{int_wrapping_neg};
-ghost use Rattle.std.specs.Ordering.{eq_by_cmp};
+ghost use Rattle.std.specs.Ordering.{eq_by_cmp, is_le};
 ghost use mir.Syntax.{w64};
 ghost use Rattle.flow_term.specs.Elements.{elem_cmp};
 ghost use Rattle.flow_term.specs.declared.elem.Elem.{out-Elem};
@@ -51,6 +51,13 @@ pub(crate) fn is_same(x: &Elem, y: &Elem) -> bool
     ensures { result ≡ eq_by_cmp elem_cmp x.now y.now }
 {
     x.cmp(y).is_eq()
+}
+
+/// Whether the first is below the second, or is the same.
+pub(crate) fn is_below_or_same(x: &Elem, y: &Elem) -> bool
+    ensures { result ≡ is_le (elem_cmp x.now y.now) }
+{
+    x.cmp(y).is_le()
 }
 
 /// Whether the comparison holds of two elements.
