@@ -90,7 +90,7 @@ module _ (spec : Spec) (tree : Term) (properties : Properties) (nodes : List Nod
   pub back : (u : ℕ) → has nat_eq n.unknowns u ≡ true → n.number (n.unknown u) ≡ u
   back u h = own_place us (get_or us u no_unknown) u hu.ordered (slice_get-get_or us u no_unknown (below_from (length us) u h))
 
-  ends_at : (k : ℕ) → k < length cs → (k < length ends) × IsEnds ps nodes (get_or ends k no_ends) (get_or cs k no_constraint)
+  pub ends_at : (k : ℕ) → k < length cs → (k < length ends) × IsEnds ps nodes (get_or ends k no_ends) (get_or cs k no_constraint)
   ends_at k within = zip_at (IsEnds ps nodes) ends cs k no_ends no_constraint are_ends within
 
   -- a property's unknown at a node has the number that is worked out

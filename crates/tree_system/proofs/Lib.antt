@@ -1,4 +1,5 @@
 pub mod BuildFacts
 pub mod EvalFacts
+pub mod ListedFacts
 pub mod ReadFacts
 pub mod TableFacts

@@ -5,6 +5,7 @@
 #![tactic(auto)]
 
 mod bodies;
+mod build;
 mod reading;
 mod rows;
 mod system;
