@@ -13,7 +13,7 @@ use Rattle.flow_syntax.specs.declared.spec.Spec.{Spec}
 use Rattle.flow_syntax.specs.declared.tables.FunctionDecl.{FunctionDecl}
 use Rattle.flow_syntax.specs.declared.tables.TableDecl.{TableDecl}
 use Rattle.flow_syntax.specs.Accepted.{HasSmallFunctions}
-use Rattle.flow_syntax.specs.DeclFaults.{argument, element_limit, result, unknown}
+use Rattle.flow_syntax.specs.DeclFaults.{argument, result, unknown}
 use Rattle.flow_syntax.specs.Faults.{HasNoFault, declaration}
 use Rattle.flow_syntax.proofs.Listed.{at_in}
 use Rattle.flow_syntax.proofs.Matches.{found_among}
@@ -22,7 +22,7 @@ use Rattle.table_laws.proofs.Declared.{well_declared}
 use Rattle.table_laws.specs.FunctionTables.{IsTotal}
 use Rattle.table_laws.specs.JoinTables.{numbered}
 use Rattle.function_laws.proofs.Declared.{accepted}
-use Rattle.function_laws.specs.Laws.{first_lattice, numbered_function, second_lattice, to}
+use Rattle.function_laws.specs.Laws.{first_lattice, numbered_function, second_lattice}
 use Rattle.lattice_tables.specs.declared.lattice.TableL.{TableL}
 use Rattle.lattice_tables.specs.Functions.{binary, unary}
 use Rattle.lattice_tables.specs.Tables.{join_table}

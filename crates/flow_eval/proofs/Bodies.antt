@@ -1,6 +1,6 @@
 -- The bodies of a prepared specification rise.
-use Rattle.std.proofs.Common.{◌≡◌, true, false, List, Option, Some, None, subst}
-use Rattle.std.specs.Prelude.{Contains, slice_get}
+use Rattle.std.proofs.Common.{◌≡◌, false, List, Option, Some, None, subst}
+use Rattle.std.specs.Prelude.{slice_get}
 use Rattle.std.proofs.lemmas.Bool.{true≢false}
 use Rattle.flow_term.specs.declared.value.Value.{Value}
 use Rattle.flow_syntax.specs.declared.property.Mode.{Mode}

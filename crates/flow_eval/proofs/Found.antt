@@ -1,6 +1,6 @@
 -- The first lattice of a name, by its number.
-use Rattle.std.proofs.Common.{◌≡◌, ℕ, ◌+◌, ◌<◌, ◌≤◌, Bool, true, false, cond, List, [], ◌∷◌, length, drop, get_or, find, bytes_eq, Option, Some, None, arith, add-one, refl, sym, ap, ◌∙◌, subst, drop-cons}
-use Rattle.std.specs.Prelude.{Contains, slice_get}
+use Rattle.std.proofs.Common.{◌≡◌, ℕ, ◌+◌, ◌<◌, Bool, true, false, cond, List, ◌∷◌, length, drop, get_or, find, bytes_eq, Option, Some, None, add-one, refl, sym, ap, ◌∙◌, drop-cons}
+use Rattle.std.specs.Prelude.{slice_get}
 use Rattle.std.proofs.lemmas.Option.{slice_get-get_or}
 use Rattle.std.proofs.lemmas.Slice.Eq.{bytes_eq-Decides}
 use Rattle.flow_syntax.specs.declared.tables.TableDecl.{TableDecl}

@@ -1,7 +1,7 @@
 -- From what is made of the declarations to what is accepted.
-use Rattle.std.proofs.Common.{◌≡◌, ℕ, ◌<◌, List, length, take, get_or, Some, None, arith, refl, sym, ap, ◌∙◌, subst, inl, inr}
-use Rattle.std.specs.Prelude.{◌⊎◌, Contains, slice_get, Result, Ok, Err, IfErr, IfOk}
-use Rattle.std.proofs.lemmas.Option.{same_Some, slice_get-get_or}
+use Rattle.std.proofs.Common.{◌≡◌, ℕ, ◌<◌, List, length, take, get_or, Some, refl, sym, ap, ◌∙◌, subst, inl, inr}
+use Rattle.std.specs.Prelude.{◌⊎◌, Contains, slice_get}
+use Rattle.std.proofs.lemmas.Option.{slice_get-get_or}
 use Rattle.flow_syntax.specs.declared.spec.Spec.{Spec}
 use Rattle.flow_syntax.specs.declared.spec.TypedSpec.{TypedSpec}
 use Rattle.flow_syntax.specs.declared.tables.FunctionDecl.{FunctionDecl}
@@ -9,8 +9,6 @@ use Rattle.flow_syntax.specs.declared.tables.TableDecl.{TableDecl}
 use Rattle.flow_syntax.specs.Accepted.{HasSmallFunctions}
 use Rattle.flow_syntax.specs.Faults.{HasNoFault}
 use Rattle.flow_syntax.proofs.Listed.{at_in, in_at}
-use Rattle.value_domains.specs.Domains.{table_of}
-use Rattle.value_domains.specs.Lawful.{IsLawfulTable}
 use Rattle.table_laws.specs.declared.fault.LawFault.{LawFault}
 use Rattle.table_laws.specs.FunctionTables.{Arguments, IsFirstDisorder}
 use Rattle.table_laws.specs.FunctionTables as numbers
@@ -23,12 +21,11 @@ use Rattle.lattice_tables.specs.declared.refusal.TableRefusal.{TableRefusal}
 use Rattle.lattice_tables.specs.declared.refusal.TableRefusal.TheVariants as tables
 use Rattle.lattice_tables.specs.Functions.{IsFunctionRefusal, IsMadeOf}
 use Rattle.lattice_tables.specs.Tables.{IsBuiltFrom, IsRefusal, declared_numbers}
-use Rattle.expr_meaning.specs.Functions.{IsMonotone}
 use Rattle.function_laws.specs.Laws.{numbered_function}
 use Rattle.flow_modes.specs.declared.check.ModeFault.{ModeFault}
 use Rattle.flow_modes.specs.Modes.{first_mode_fault}
 use Rattle.flow_eval.proofs.Causes.{accepted_or_refused, lawful_by_names, monotone_by_names, one_cause}
-use Rattle.flow_eval.proofs.Zips.{among_at, taken, zip_at}
+use Rattle.flow_eval.proofs.Zips.{taken, zip_at}
 use Rattle.flow_eval.specs.Accepted.{HasLawfulLattices, HasMonotoneFunctions, IsAccepted, IsFirstDisordered, IsFirstUnlawful, IsRefusedFor}
 use Rattle.flow_eval.specs.Tables.{AreFunctionsOf, types_in}
 use Rattle.flow_eval.specs.inner.Built.{AreLatticesOf, IsDisorderRefusal, IsLatticeRefusal, IsRefusalOf, refused_function, refused_lattice}

@@ -12,7 +12,7 @@ use Rattle.expr_meaning.specs.Ranges.{values}
 use Rattle.expr_meaning.specs.SpecRanges.{usable_in}
 use Rattle.expr_meaning.specs.Typing.{IsIn}
 use Rattle.typed_bodies.specs.Accepted.{CanApply, HasLawfulTables, IsTypedBy, rule_domain, sense_of}
-use Rattle.flow_eval.specs.Accepted.{HasRisingRules, IsAccepted, IsRefusedFor}
+use Rattle.flow_eval.specs.Accepted.{IsAccepted, IsRefusedFor}
 use Rattle.flow_eval.specs.Tables.{types_in}
 use Rattle.flow_eval.specs.declared.ready.Ready.{Ready}
 use Rattle.flow_eval.specs.declared.refusal.PrepareRefusal.{PrepareRefusal}

@@ -1,4 +1,4 @@
-use Rattle.std.proofs.Common.{◌<◌, ◌≤◌, arith, subst, sym}
+use Rattle.std.proofs.Common.{arith, subst, sym}
 use Rattle.table_laws.proofs.Declared.{well_declared}
 use Rattle.lattice_tables.specs.Tables.{IsBuiltFrom}
 use Rattle.flow_eval.proofs.Parts.{unlawful_refused}

@@ -1,4 +1,4 @@
-use Rattle.std.proofs.Common.{◌≡◌, ◌≤◌, arith, rules, ap, bytes_eq, drop, find, length, sym, ◌∙◌}
+use Rattle.std.proofs.Common.{◌≡◌, arith, rules, ap, bytes_eq, drop, find, length, sym, ◌∙◌}
 use Rattle.std.proofs.lemmas.Option.{slice_get_past}
 use Rattle.std.proofs.Math.Seq.{drop-length}
 use Rattle.std.proofs.lemmas.Bool.{true≢false}

@@ -1,4 +1,3 @@
-use Rattle.std.proofs.Common.{rules}
 use Rattle.flow_eval.proofs.Parts.{all_monotone}
 use Rattle.flow_eval.proofs.ready.ready_of.Goals as goal
 
